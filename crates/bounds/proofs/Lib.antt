@@ -1,0 +1,4 @@
+pub mod Directions
+pub mod Boxes
+pub mod Around
+pub mod Answering

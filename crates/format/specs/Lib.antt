@@ -1,0 +1,10 @@
+pub mod Reader
+pub mod Numeral
+pub mod Parts
+pub mod Fields
+pub mod Numbers
+pub mod Words
+pub mod Command
+pub mod Statement
+pub mod Lines
+pub mod Line

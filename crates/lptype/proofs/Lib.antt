@@ -1,0 +1,10 @@
+pub mod Naming
+pub mod Order
+pub mod Inside
+pub mod Rivals
+pub mod Derived
+pub mod Outs
+pub mod Spare
+pub mod Standing
+pub mod Searching
+pub mod Exchanging

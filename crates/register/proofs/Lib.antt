@@ -1,0 +1,5 @@
+mod Occurring
+mod Refusing
+mod Passing
+mod Marking
+mod Filing

@@ -1,0 +1,3 @@
+pub mod checking;
+pub mod table;
+pub mod working;

@@ -1,0 +1,3 @@
+pub mod positions;
+pub mod refusal;
+pub mod row;

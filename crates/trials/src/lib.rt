@@ -1,0 +1,4 @@
+pub mod everything;
+
+#[cfg(test)]
+mod tests;
