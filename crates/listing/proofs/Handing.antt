@@ -19,7 +19,7 @@ use Rattle.rows.specs.List.{ListMade}
 use Rattle.rows.specs.declared.row.Row.{Row}
 use Rattle.rows.specs.declared.refusal.Refusal.{Refusal}
 use Rattle.lptype.specs.Meaning.{Meaning}
-use Rattle.register.specs.Checking.{CheckAnswer, BasisOfOpen}
+use Rattle.checking.specs.Checking.{CheckAnswer, BasisOfOpen}
 use Rattle.register.specs.State.{State, EnterAnswer}
 use Rattle.listing.specs.Obeyed.{AllNarrow, narrowed, constraint-of, RowAnswer, HandedAnswer, HandedBasis}
 

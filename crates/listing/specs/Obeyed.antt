@@ -17,7 +17,7 @@ use Rattle.rows.specs.declared.row.Row.{Row}
 use Rattle.rows.specs.declared.refusal.Refusal.{Refusal}
 use Rattle.rows.specs.declared.refusal.Refusal.the-variants.{NotAdmitted, ParishRange, TableFull, TooManyPositions, NotRising}
 use Rattle.lptype.specs.Meaning.{Meaning}
-use Rattle.register.specs.Checking.{CheckAnswer, BasisOfOpen}
+use Rattle.checking.specs.Checking.{CheckAnswer, BasisOfOpen}
 use Rattle.register.specs.State.{State, Became, entered, StrikeAnswer, Struck-at, RestoreAnswer, restored}
 use Rattle.format.specs.Numbers.{numbers-in}
 use Rattle.format.specs.declared.command.Command.{Command}

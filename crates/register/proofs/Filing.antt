@@ -22,10 +22,11 @@ use Rattle.rows.specs.declared.row.Mark.the-variants.{Open, Struck}
 use Rattle.lptype.specs.Meaning.{Meaning, In, Admitted, Stands}
 use Rattle.lptype.proofs.Standing.{stands-by}
 use Rattle.register.specs.Table.{marked}
-use Rattle.register.specs.Filed.{has-open, OnOpen, AllBelow, occurs, Covers}
+use Rattle.checking.specs.Filed.{has-open, OnOpen, AllBelow, occurs, Covers}
 use Rattle.register.specs.State.{State, Good, entered, with-mark, Emptied, Struck-at, restored}
-use Rattle.register.proofs.Occurring.{in-at}
-use Rattle.register.proofs.Marking.{opens, opened, marked-length, marked-there, marked-elsewhere, marked-constraints, marked-picked}
+use Rattle.checking.proofs.Occurring.{in-at}
+use Rattle.checking.proofs.Opening.{opens, opened}
+use Rattle.register.proofs.Marking.{marked-length, marked-there, marked-elsewhere, marked-constraints, marked-picked}
 
 pub same-state : {rows rows′ : List Row} {order order′ : List ℕ} {basis basis′ : List ℤ} → rows ≡ rows′ → order ≡ order′ → basis ≡ basis′
   → _≡_ {A = State} (record { rows = rows; order = order; basis = basis }) (record { rows = rows′; order = order′; basis = basis′ })

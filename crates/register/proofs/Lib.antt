@@ -1,5 +1,2 @@
-mod Occurring
-mod Refusing
-mod Passing
 mod Marking
 mod Filing

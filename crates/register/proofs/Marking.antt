@@ -1,43 +1,16 @@
--- Another mark at one position: what stays, and what is open then.
+-- Another mark at one position: what stays.
 use Prim.Native.Nat.{ℕ, zero, suc, _<_}
 use mathlib.Core.Path.{_≡_, refl, ap, _∙_}
 use mathlib.Core.Logic.{_≢_}
-use mathlib.Core.Bool.{Bool, true, false, _&&_}
 use mathlib.Core.List.{List, [], _∷_, map}
-use native.Mathlib.Omega.{arith}
-use lib.Dec.{ltb}
-use lib.IntN.{ℤ, pos, natAbs}
-use lib.Signed.{_≤ℤ_, leZ}
+use lib.IntN.{ℤ, natAbs}
 use lib.ListN.{length, getD, set, length-set}
 use lib.Seq.{getD-set-same, getD-set-other}
-use Rattle.std.proofs.shelf.Signed.{ints}
-use Rattle.std.proofs.shelf.Tests.{and-parts, and-from, ltb-true, lt-ltb}
-use Rattle.rows.specs.Row.{HasRow, at, picked, row-at, no-row}
-use Rattle.rows.specs.declared.row.Constraint.{Constraint}
+use Rattle.rows.specs.Row.{at, picked, row-at, no-row}
 use Rattle.rows.specs.declared.row.Row.{Row}
 use Rattle.rows.specs.declared.row.Mark.{Mark}
-use Rattle.rows.specs.declared.row.Mark.the-variants.{Open, Struck}
 use Rattle.register.specs.Table.{marked}
 use Rattle.register.specs.State.{with-mark}
-use Rattle.register.specs.Filed.{is-open, has-open}
-
--- ---- has-open, as a test and as a fact
-
-open-mark : (mark : Mark) → is-open mark ≡ true → mark ≡ Open
-open-mark Open e = refl
-open-mark Struck e = cc
-
-pub opens : (rows : List Row) (p : ℤ) → has-open rows p ≡ true → HasRow rows p × (row-at rows p .mark ≡ Open)
-opens rows p e =
-    let a = and-parts (leZ (pos 0) p) (ltb (natAbs p) (length rows) && is-open (row-at rows p .mark)) e in
-    let b = and-parts (ltb (natAbs p) (length rows)) (is-open (row-at rows p .mark)) (a .1) in
-    ((grind (arith, ints), ltb-true (natAbs p) (length rows) (b .0)), open-mark (row-at rows p .mark) (b .1))
-
-pub opened : (rows : List Row) (p : ℤ) → HasRow rows p → row-at rows p .mark ≡ Open → has-open rows p ≡ true
-opened rows p h e =
-    let z : leZ (pos 0) p ≡ true = grind (arith, ints, h .0) in
-    and-from (leZ (pos 0) p) (ltb (natAbs p) (length rows) && is-open (row-at rows p .mark)) z
-      (and-from (ltb (natAbs p) (length rows)) (is-open (row-at rows p .mark)) (lt-ltb (natAbs p) (length rows) (h .1)) (ap is-open e))
 
 -- ---- another mark
 

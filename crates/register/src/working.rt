@@ -3,7 +3,7 @@ mod calls;
 ghost use Prim.Native.Nat.{_≤_};
 ghost use lib.ListN.{take};
 ghost use Rattle.rows.specs.List.{positions};
-ghost use Rattle.register.specs.Filed.{OnOpen, AllBelow, Covers};
+ghost use Rattle.checking.specs.Filed.{OnOpen, AllBelow, Covers};
 use crate::table::Table;
 use rows::positions::Positions;
 

@@ -9,7 +9,7 @@ ghost use Rattle.rows.specs.List.{positions};
 ghost use Rattle.rows.specs.declared.refusal.Refusal.the-variants.{NoRow};
 ghost use Rattle.lptype.specs.Meaning.{In};
 ghost use Rattle.register.specs.State.{new-state, Good, Became, EnterAnswer, entered, StrikeAnswer, Struck-at, Emptied, RestoreAnswer, restored};
-ghost use Rattle.register.specs.Checking.{CheckAnswer, BasisOfOpen};
+ghost use Rattle.checking.specs.Checking.{CheckAnswer, BasisOfOpen};
 ghost use Rattle.register.specs.Calls.{state-of};
 use crate::checking::check_table;
 use crate::table::Table;

@@ -2,7 +2,7 @@ use mathlib.Core.Path.{subst}
 use Rattle.std.specs.Orderings.{Decides}
 use Rattle.std.specs.Results.{isOk}
 use Rattle.register.specs.Calls.{state-of}
-use Rattle.register.specs.Checking.{CheckAnswer, BasisOfOpen}
+use Rattle.checking.specs.Checking.{CheckAnswer, BasisOfOpen}
 use Rattle.listing.proofs.Handing.{not-made, none-passes, made, passes}
 use Rattle.listing.proofs.obeying.check_numbers.Needs as need
 

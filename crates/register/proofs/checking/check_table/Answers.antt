@@ -6,7 +6,7 @@ use Rattle.std.specs.Orderings.{Decides}
 use Rattle.std.specs.Results.{isOk}
 use Rattle.rows.specs.List.{positions}
 use Rattle.lptype.specs.Meaning.{Admitted}
-use Rattle.register.specs.Checking.{CheckAnswer, BasisOfOpen}
+use Rattle.checking.specs.Checking.{CheckAnswer, BasisOfOpen}
 use Rattle.register.proofs.checking.check_table.Needs as need
 
 pub returns : need.returns

@@ -12,7 +12,7 @@ use Rattle.std.proofs.shelf.Signed.{toZ-ofZ}
 use Rattle.rows.specs.Row.{open-row}
 use Rattle.rows.specs.List.{positions}
 use Rattle.register.specs.Calls.{state-of}
-use Rattle.register.specs.Filed.{OnOpen, AllBelow, Covers}
+use Rattle.checking.specs.Filed.{OnOpen, AllBelow, Covers}
 use Rattle.register.specs.State.{Good}
 use Rattle.register.proofs.Filing.{same-state, filed-entered, good-entered, below-entered, covers-entered}
 use Rattle.register.proofs.working.Working.enter.Needs as need

@@ -14,7 +14,7 @@ use Rattle.rows.specs.declared.row.Mark.the-variants.{Open}
 use Rattle.rows.specs.declared.refusal.Refusal.the-variants.{NoRow}
 use Rattle.register.specs.Calls.{state-of}
 use Rattle.register.specs.Table.{marked}
-use Rattle.register.specs.Filed.{OnOpen}
+use Rattle.checking.specs.Filed.{OnOpen}
 use Rattle.register.specs.State.{Good}
 use Rattle.register.proofs.Filing.{same-state, rows-marked, filed-restored, good-restored}
 use Rattle.register.proofs.working.Working.restore.Needs as need

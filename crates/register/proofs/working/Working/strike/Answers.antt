@@ -13,7 +13,7 @@ use Rattle.rows.specs.declared.row.Mark.the-variants.{Struck}
 use Rattle.rows.specs.declared.refusal.Refusal.the-variants.{NoRow}
 use Rattle.register.specs.Calls.{state-of}
 use Rattle.register.specs.Table.{marked}
-use Rattle.register.specs.Filed.{OnOpen}
+use Rattle.checking.specs.Filed.{OnOpen}
 use Rattle.register.specs.State.{State, Struck-at, Emptied, with-mark}
 use Rattle.register.proofs.Filing.{rows-marked, filed-struck, good-struck}
 use Rattle.register.proofs.working.Working.strike.Needs as need

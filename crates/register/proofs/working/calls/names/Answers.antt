@@ -6,7 +6,7 @@ use mir.Syntax.{w64}
 use Rattle.std.proofs.shelf.Signed.{toZ-ofZ, ints}
 use Rattle.std.proofs.shelf.Tests.{false≢true}
 use Rattle.lptype.specs.Meaning.{In}
-use Rattle.register.proofs.Occurring.{in-at, place-of}
+use Rattle.checking.proofs.Occurring.{in-at, place-of}
 use Rattle.register.proofs.working.calls.names.Needs as need
 
 pub returns-then-p-position : need.returns-then-p-position

@@ -1,8 +1,8 @@
 use Rattle.rows.specs.List.{positions}
 use mathlib.Core.Path.{subst}
 use Rattle.rows.specs.Row.{Named, AllOpen}
-use Rattle.register.proofs.Passing.{answered, passes}
-use Rattle.register.proofs.checking.check_list.Needs as need
+use Rattle.checking.proofs.Passing.{answered, passes}
+use Rattle.checking.proofs.check.check_list.Needs as need
 
 pub returns : need.returns
 returns g c =

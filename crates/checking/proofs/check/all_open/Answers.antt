@@ -10,7 +10,7 @@ use Rattle.std.proofs.shelf.Signed.{toZ-ofZ}
 use Rattle.rows.specs.Row.{HasRow, row-at}
 use Rattle.rows.specs.declared.row.Mark.the-variants.{Open}
 use Rattle.rows.proofs.Placing.{all-places, all-refuted}
-use Rattle.register.proofs.checking.all_open.Needs as need
+use Rattle.checking.proofs.check.all_open.Needs as need
 
 pub open-at-requires : need.open-at-requires
 open-at-requires c κs =

@@ -23,7 +23,7 @@ use Rattle.lptype.specs.Laws.{Laws}
 use Rattle.lptype.proofs.Order.{down, not-both}
 use Rattle.lptype.proofs.Inside.{within-admitted, all-in}
 use Rattle.lptype.proofs.Derived.{whole}
-use Rattle.register.specs.Checking.{QuietBefore, FirstViolating, Searched, CheckAnswer, BasisOfOpen, open-rows, kept-if}
+use Rattle.checking.specs.Checking.{QuietBefore, FirstViolating, Searched, CheckAnswer, BasisOfOpen, open-rows, kept-if}
 
 -- ---- the open rows, by place
 

@@ -1,6 +1,6 @@
 use Rattle.rows.specs.List.{positions}
-use Rattle.register.proofs.Refusing.{stands-unrefused}
-use Rattle.register.proofs.checking.stands_list.Needs as need
+use Rattle.checking.proofs.Refusing.{stands-unrefused}
+use Rattle.checking.proofs.check.stands_list.Needs as need
 
 pub returns-in-Err : need.returns-in-Err
 returns-in-Err g c =

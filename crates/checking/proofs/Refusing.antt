@@ -16,7 +16,7 @@ use Rattle.lptype.specs.Meaning.{Meaning, Admitted, Stands}
 use Rattle.lptype.specs.Places.{Fine}
 use Rattle.lptype.specs.Questions.{StandsAnswer, ViolatesAnswer}
 use Rattle.lptype.proofs.Naming.{all-unmap}
-use Rattle.register.specs.Checking.{Filed}
+use Rattle.checking.specs.Checking.{Filed}
 
 module _ (m : Meaning) (rows : List Row) (a : Admitted m (map (λ row. row .constraint) rows)) where
   admitted-at : (p : ℤ) → HasRow rows p → Fine m (at rows p)

@@ -8,8 +8,8 @@ use Rattle.std.specs.declared.result.Result.the-variants.{Ok, Err}
 use Rattle.std.proofs.shelf.Signed.{toZ-pos, ints}
 use Rattle.rows.specs.List.{positions}
 use Rattle.lptype.specs.Questions.{ViolatesAnswer}
-use Rattle.register.proofs.Refusing.{violates-unrefused}
-use Rattle.register.proofs.checking.violates_at.Needs as need
+use Rattle.checking.proofs.Refusing.{violates-unrefused}
+use Rattle.checking.proofs.check.violates_at.Needs as need
 
 pub returns-in-Ok : need.returns-in-Ok
 returns-in-Ok g c =

@@ -1,0 +1,4 @@
+pub mod Occurring
+pub mod Opening
+pub mod Refusing
+pub mod Passing
