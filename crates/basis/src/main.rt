@@ -1,3 +1,5 @@
+#![tactic(auto)]
+
 mod input;
 
 ghost use Rattle.register.specs.Calls.{state_of};

@@ -45,8 +45,8 @@ fn all_open(rows: &[Row], list: &[i64]) -> bool
 
 // Whether the list stands.
 fn stands_list<P: Problem>(problem: &P, rows: &[Row], list: &Positions) -> bool
-    requires { Filed (meaning problem.now) rows.now (positions list.now) }
-    ensures { Decides result (Stands (meaning problem.now) (picked rows.now (positions list.now))) }
+    requires { Filed (P.meaning problem.now) rows.now (positions list.now) }
+    ensures { Decides result (Stands (P.meaning problem.now) (picked rows.now (positions list.now))) }
 {
     match problem.stands(rows, list) {
         Ok(stands) => stands,
@@ -56,8 +56,8 @@ fn stands_list<P: Problem>(problem: &P, rows: &[Row], list: &Positions) -> bool
 
 // Whether the row at a place violates the list.
 fn violates_at<P: Problem>(problem: &P, rows: &[Row], list: &Positions, place: usize) -> bool
-    requires { (Filed (meaning problem.now) rows.now (positions list.now)) × ((Stands (meaning problem.now) (picked rows.now (positions list.now))) × (place < length rows.now)) }
-    ensures { Decides result (Raises (meaning problem.now) (picked rows.now (positions list.now)) (slice_index_or rows.now place no_row).constraint) }
+    requires { (Filed (P.meaning problem.now) rows.now (positions list.now)) × ((Stands (P.meaning problem.now) (picked rows.now (positions list.now))) × (place < length rows.now)) }
+    ensures { Decides result (Raises (P.meaning problem.now) (picked rows.now (positions list.now)) (slice_index_or rows.now place no_row).constraint) }
 {
     match problem.violates(rows, list, place as i64) {
         Ok(violates) => violates,
@@ -67,8 +67,8 @@ fn violates_at<P: Problem>(problem: &P, rows: &[Row], list: &Positions, place: u
 
 // Goes through the rows by rising position, to the first open row that violates the list.
 fn search_rows<P: Problem>(problem: &P, rows: &[Row], list: &Positions) -> Result<(), Refusal>
-    requires { (Filed (meaning problem.now) rows.now (positions list.now)) × (Stands (meaning problem.now) (picked rows.now (positions list.now))) }
-    ensures { Searched (meaning problem.now) rows.now (picked rows.now (positions list.now)) result }
+    requires { (Filed (P.meaning problem.now) rows.now (positions list.now)) × (Stands (P.meaning problem.now) (picked rows.now (positions list.now))) }
+    ensures { Searched (P.meaning problem.now) rows.now (picked rows.now (positions list.now)) result }
 {
     for (i, row) in rows.iter().enumerate() {
         if is_open(*row) {
@@ -82,9 +82,9 @@ fn search_rows<P: Problem>(problem: &P, rows: &[Row], list: &Positions) -> Resul
 
 // Whether the list is a basis of the open rows.
 pub fn check_list<P: Problem>(problem: &P, rows: &[Row], list: &Positions) -> Result<(), Refusal>
-    requires { (Admitted (meaning problem.now) (map (λ row. row.constraint) rows.now)) × (length rows.now ≤ 256) }
-    ensures answer { CheckAnswer (meaning problem.now) rows.now (positions list.now) result }
-    ensures passes { Decides (is_ok result) (BasisOfOpen (meaning problem.now) rows.now (positions list.now)) }
+    requires { (Admitted (P.meaning problem.now) (map (λ row. row.constraint) rows.now)) × (length rows.now ≤ 256) }
+    ensures answer { CheckAnswer (P.meaning problem.now) rows.now (positions list.now) result }
+    ensures passes { Decides (is_ok result) (BasisOfOpen (P.meaning problem.now) rows.now (positions list.now)) }
 {
     let positions = list.as_slice();
     if !all_named(rows, positions) {

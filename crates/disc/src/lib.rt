@@ -1,3 +1,5 @@
+#![tactic(auto)]
+
 mod angles;
 pub mod answer;
 mod centre;

@@ -1,3 +1,5 @@
+#![tactic(auto)]
+
 pub mod number;
 #[cfg(test)]
 mod tests;

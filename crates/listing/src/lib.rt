@@ -1,3 +1,5 @@
+#![tactic(auto)]
+
 pub mod answers;
 pub mod line;
 pub mod obeying;

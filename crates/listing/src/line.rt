@@ -37,10 +37,10 @@ pub fn obey_line<P: Problem>(
     register: &mut Working<P>,
     line: &LineBuffer,
 ) -> Result<Outcome, Refusal>
-    requires { Good (meaning register.old.problem) (state_of register.old) }
-    ensures answer { (xs : List ℕ) → Holds line.now xs → LineAnswer (meaning register.old.problem) (state_of register.old) xs result (state_of register.new) }
+    requires { Good (P.meaning register.old.problem) (state_of register.old) }
+    ensures answer { (xs : List ℕ) → Holds line.now xs → LineAnswer (P.meaning register.old.problem) (state_of register.old) xs result (state_of register.new) }
     ensures problem { register.new.problem ≡ register.old.problem }
-    ensures good { Good (meaning register.new.problem) (state_of register.new) }
+    ensures good { Good (P.meaning register.new.problem) (state_of register.new) }
 {
     match later_line(line) {
         Ok(command) => obey(register, command),

@@ -73,11 +73,11 @@ fn enter_numbers<P: Problem>(
     c: i64,
     parish: i64,
 ) -> Result<(), Refusal>
-    requires { Good (meaning register.old.problem) (state_of register.old) }
-    ensures answer { RowAnswer (meaning register.old.problem) (state_of register.old) a b c parish result }
+    requires { Good (P.meaning register.old.problem) (state_of register.old) }
+    ensures answer { RowAnswer (P.meaning register.old.problem) (state_of register.old) a b c parish result }
     ensures after { Became result (state_of register.old) (λ t. t ≡ entered (constraint_of a b c parish) (state_of register.old)) (state_of register.new) }
     ensures problem { register.new.problem ≡ register.old.problem }
-    ensures good { Good (meaning register.new.problem) (state_of register.new) }
+    ensures good { Good (P.meaning register.new.problem) (state_of register.new) }
 {
     match constraint(a, b, c, parish) {
         Some(row) => register.enter(row),
@@ -87,9 +87,9 @@ fn enter_numbers<P: Problem>(
 
 // Checks a list of numbers, after making it.
 fn check_numbers<P: Problem>(register: &Working<P>, numbers: &[i64]) -> Result<(), Refusal>
-    requires { Good (meaning register.now.problem) (state_of register.now) }
-    ensures answer { HandedAnswer (meaning register.now.problem) (state_of register.now).rows numbers.now result }
-    ensures passes { Decides (is_ok result) (HandedBasis (meaning register.now.problem) (state_of register.now).rows numbers.now) }
+    requires { Good (P.meaning register.now.problem) (state_of register.now) }
+    ensures answer { HandedAnswer (P.meaning register.now.problem) (state_of register.now).rows numbers.now result }
+    ensures passes { Decides (is_ok result) (HandedBasis (P.meaning register.now.problem) (state_of register.now).rows numbers.now) }
 {
     match Positions::from_numbers(numbers) {
         Ok(list) => register.check(&list),
@@ -102,10 +102,10 @@ pub(crate) fn obey<P: Problem>(
     register: &mut Working<P>,
     command: Command,
 ) -> Result<Outcome, Refusal>
-    requires { Good (meaning register.old.problem) (state_of register.old) }
-    ensures answer { CommandAnswer (meaning register.old.problem) (state_of register.old) command result (state_of register.new) }
+    requires { Good (P.meaning register.old.problem) (state_of register.old) }
+    ensures answer { CommandAnswer (P.meaning register.old.problem) (state_of register.old) command result (state_of register.new) }
     ensures problem { register.new.problem ≡ register.old.problem }
-    ensures good { Good (meaning register.new.problem) (state_of register.new) }
+    ensures good { Good (P.meaning register.new.problem) (state_of register.new) }
 {
     match command {
         Command::Row { a, b, c, parish } => says(

@@ -78,8 +78,8 @@ pub fn settlement<P: Problem>(
 ) -> Result<String, AllocError>
 where
     P::Answer: AnswerLine + Drop,
-    requires { Good (meaning register.now.register.problem) (settled_state register.now) }
-    ensures { IfOk result (λ s. Printed (meaning register.now.register.problem) (P.Problem.reads register.now.register.problem) (λ a. P.Answer.AnswerLine.shown a line) line (settled_state register.now) register.now.counts.tests register.now.counts.exchanges (string_bytes s)) }
+    requires { Good (P.meaning register.now.register.problem) (settled_state register.now) }
+    ensures { IfOk result (λ s. Printed (P.meaning register.now.register.problem) (P.Problem.reads register.now.register.problem) (λ a. P.Answer.AnswerLine.shown a line) line (settled_state register.now) register.now.counts.tests register.now.counts.exchanges (string_bytes s)) }
 {
     let first = basis(heap, line, register.basis().as_slice())?;
     let answer = register.answer().line(heap, line)?;

@@ -1,2 +1,4 @@
+#![tactic(auto)]
+
 pub mod problem;
 pub mod theory;

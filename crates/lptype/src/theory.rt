@@ -5,13 +5,13 @@ use crate::problem::Problem;
 
 // What the laws imply, for every problem.
 fn theory_holds<P: Problem>(problem: &P)
-    ensures { Theory (meaning problem.now) }
+    ensures { Theory (P.meaning problem.now) }
 {}
 
 // How long a list that stands can be.
 pub fn longest_basis<P: Problem>(problem: &P) -> usize
-    ensures dimension { result ≡ (meaning problem.now).dimension }
-    ensures theory { Theory (meaning problem.now) }
+    ensures dimension { result ≡ (P.meaning problem.now).dimension }
+    ensures theory { Theory (P.meaning problem.now) }
 {
     theory_holds(problem);
     problem.dimension()

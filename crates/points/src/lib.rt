@@ -1,3 +1,5 @@
+#![tactic(auto)]
+
 ghost use Rattle.std.specs.Prelude.{◌≡◌};
 ghost use Rattle.rows.specs.Row.{HasRow, at};
 ghost use Rattle.points.specs.Point.{near, admits_point};

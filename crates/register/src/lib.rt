@@ -1,4 +1,6 @@
-pub mod checking;
+#![tactic(auto)]
+
 pub mod settled;
 pub mod table;
+pub mod table_check;
 pub mod working;

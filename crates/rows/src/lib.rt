@@ -1,3 +1,5 @@
+#![tactic(auto)]
+
 pub mod positions;
 pub mod refusal;
 pub mod row;

@@ -1,3 +1,5 @@
+#![tactic(auto)]
+
 pub mod everything;
 #[cfg(test)]
 mod tests;

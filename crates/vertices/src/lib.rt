@@ -1,2 +1,4 @@
+#![tactic(auto)]
+
 pub mod crossing;
 pub mod vertex;

@@ -1,2 +1,4 @@
+#![tactic(auto)]
+
 pub mod shuffling;
 pub mod walking;

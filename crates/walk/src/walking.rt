@@ -80,24 +80,24 @@ impl Counts {
 
 // Whether the row at a place raises the value of the basis.
 fn raised<P: Problem>(problem: &P, rows: &[Row], basis: &Positions, place: usize) -> bool
-    requires { Tested (meaning problem.now) rows.now (positions basis.now) place }
-    ensures { RaisedOrQuiet (meaning problem.now) rows.now (positions basis.now) (pos place) result }
+    requires { Tested (P.meaning problem.now) rows.now (positions basis.now) place }
+    ensures { RaisedOrQuiet (P.meaning problem.now) rows.now (positions basis.now) (pos place) result }
 {
     !problem.quiet_at(rows, basis, place as i64)
 }
 
 // Makes the basis one of its rows with the row at a place.
 fn change<P: Problem>(problem: &P, rows: &[Row], basis: &mut Positions, place: usize)
-    requires { Tested (meaning problem.now) rows.now (positions basis.old) place }
-    ensures { Exchanged (meaning problem.now) rows.now (positions basis.old) (pos place) (positions basis.new) }
+    requires { Tested (P.meaning problem.now) rows.now (positions basis.old) place }
+    ensures { Exchanged (P.meaning problem.now) rows.now (positions basis.old) (pos place) (positions basis.new) }
 {
     let _ = problem.exchange(rows, basis, place as i64);
 }
 
 // Passes over a struck row; tests an open one, and exchanges if it violates the basis.
 fn visit<P: Problem>(problem: &P, rows: &[Row], basis: &mut Positions, place: usize) -> Step
-    requires { Tested (meaning problem.now) rows.now (positions basis.old) place }
-    ensures { StepAnswer (meaning problem.now) rows.now (positions basis.old) (pos place) (positions basis.new) result }
+    requires { Tested (P.meaning problem.now) rows.now (positions basis.old) place }
+    ensures { StepAnswer (P.meaning problem.now) rows.now (positions basis.old) (pos place) (positions basis.new) result }
 {
     match rows[place].mark {
         Mark::Struck => return Step::Passed,
@@ -112,9 +112,9 @@ fn visit<P: Problem>(problem: &P, rows: &[Row], basis: &mut Positions, place: us
 
 // Walks through the order from its first place, and back there after each exchange.
 pub fn walk<P: Problem>(problem: &P, rows: &[Row], order: &[usize], basis: &mut Positions) -> Counts
-    requires { WalkReady (meaning problem.now) rows.now order.now (positions basis.old) }
-    ensures ends { WalkEnds (meaning problem.now) rows.now order.now (positions basis.old) (positions basis.new) result.tests result.exchanges }
-    ensures law { WalkLaw (meaning problem.now) rows.now order.now (positions basis.old) }
+    requires { WalkReady (P.meaning problem.now) rows.now order.now (positions basis.old) }
+    ensures ends { WalkEnds (P.meaning problem.now) rows.now order.now (positions basis.old) (positions basis.new) result.tests result.exchanges }
+    ensures law { WalkLaw (P.meaning problem.now) rows.now order.now (positions basis.old) }
 {
     let mut counts = Counts::none();
     let mut place = 0;

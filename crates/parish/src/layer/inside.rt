@@ -11,7 +11,7 @@ use rows::row::Row;
 impl<P: Problem> Parish<P> {
     // Whether the rows stand below and are all of the parish.
     pub(super) fn stands_inside(&self, rows: &[Row], list: &Positions) -> Result<bool, Refusal>
-        ensures { StandsInside (P.Problem.meaning self.now.below) self.now.parish rows.now (positions list.now) result }
+        ensures { StandsInside (P.meaning self.now.below) self.now.parish rows.now (positions list.now) result }
     {
         Ok(self.below.stands(rows, list)? && all_of_parish(rows, list.as_slice(), self.parish))
     }
@@ -23,7 +23,7 @@ impl<P: Problem> Parish<P> {
         list: &Positions,
         h: i64,
     ) -> Result<bool, Refusal>
-        ensures { ViolatesInside (P.Problem.meaning self.now.below) self.now.parish rows.now (positions list.now) h result }
+        ensures { ViolatesInside (P.meaning self.now.below) self.now.parish rows.now (positions list.now) h result }
     {
         self.below.sound_with(rows, list.as_slice(), h)?;
         if !self.stands_inside(rows, list)? {
@@ -37,7 +37,7 @@ impl<P: Problem> Parish<P> {
 
     // The answer below for rows that stand and are all of the parish.
     pub(super) fn answer_inside(&self, rows: &[Row], list: &Positions) -> Result<P::Answer, Refusal>
-        ensures { AnswerInside (P.Problem.meaning self.now.below) (P.Problem.reads self.now.below) self.now.parish rows.now (positions list.now) result }
+        ensures { AnswerInside (P.meaning self.now.below) (P.reads self.now.below) self.now.parish rows.now (positions list.now) result }
     {
         if self.stands_inside(rows, list)? {
             self.below.answer(rows, list)

@@ -10,8 +10,8 @@ ghost use Rattle.register.specs.Days.{entering, striking, restoring, checking, w
 ghost use Rattle.register.specs.DayLaw.{DayLaw};
 ghost use Rattle.register.specs.Calls.{state_of};
 
-use crate::checking::check_table;
 use crate::table::Table;
+use crate::table_check::check_table;
 use crate::working::Working;
 use lptype::problem::Problem;
 use rows::positions::Positions;
@@ -53,9 +53,9 @@ impl<P: Problem> Working<P> {
     pub fn new(problem: P) -> Working<P>
         ensures state { state_of result ≡ new_state }
         ensures problem { result.problem ≡ problem }
-        ensures good { Good (meaning problem) (state_of result) }
-        ensures day { Day (meaning problem) [] (working (state_of result)) }
-        ensures law { DayLaw (meaning problem) }
+        ensures good { Good (P.meaning problem) (state_of result) }
+        ensures day { Day (P.meaning problem) [] (working (state_of result)) }
+        ensures law { DayLaw (P.meaning problem) }
     {
         Working {
             problem,
@@ -78,7 +78,7 @@ impl<P: Problem> Working<P> {
 
     // Whether a row may be entered.
     fn judge_entry(&self, row: Constraint) -> Result<(), Refusal>
-        ensures answer { EnterAnswer (meaning self.now.problem) (state_of self.now) row result }
+        ensures answer { EnterAnswer (P.meaning self.now.problem) (state_of self.now) row result }
         ensures room { OnOk result (self.now.used < 256) }
     {
         if !self.problem.admits(row.a, row.b, row.c) {
@@ -95,12 +95,12 @@ impl<P: Problem> Working<P> {
 
     // Files one open row more, its position last in the order.
     fn file(&mut self, row: Constraint)
-        requires good { Good (meaning self.old.problem) (state_of self.old) }
-        requires accepted { EnterAnswer (meaning self.old.problem) (state_of self.old) row (Ok tt) }
+        requires good { Good (P.meaning self.old.problem) (state_of self.old) }
+        requires accepted { EnterAnswer (P.meaning self.old.problem) (state_of self.old) row (Ok tt) }
         requires room { self.old.used < 256 }
         ensures after { state_of self.new ≡ entered row (state_of self.old) }
         ensures problem { self.new.problem ≡ self.old.problem }
-        ensures good { Good (meaning self.new.problem) (state_of self.new) }
+        ensures good { Good (P.meaning self.new.problem) (state_of self.new) }
     {
         let place = self.used;
         self.table.put(place, row.opened());
@@ -110,12 +110,12 @@ impl<P: Problem> Working<P> {
 
     // Enters one open row more.
     pub fn enter(&mut self, row: Constraint) -> Result<(), Refusal>
-        requires { Good (meaning self.old.problem) (state_of self.old) }
-        ensures answer { EnterAnswer (meaning self.old.problem) (state_of self.old) row result }
+        requires { Good (P.meaning self.old.problem) (state_of self.old) }
+        ensures answer { EnterAnswer (P.meaning self.old.problem) (state_of self.old) row result }
         ensures after { Became result (state_of self.old) (λ t. t ≡ entered row (state_of self.old)) (state_of self.new) }
         ensures problem { self.new.problem ≡ self.old.problem }
-        ensures good { Good (meaning self.new.problem) (state_of self.new) }
-        ensures day { Extends (meaning self.old.problem) (working (state_of self.old)) (entering row) (working (state_of self.new)) }
+        ensures good { Good (P.meaning self.new.problem) (state_of self.new) }
+        ensures day { Extends (P.meaning self.old.problem) (working (state_of self.old)) (entering row) (working (state_of self.new)) }
     {
         match self.judge_entry(row) {
             Ok(()) => {
@@ -138,11 +138,11 @@ impl<P: Problem> Working<P> {
 
     // Marks one open row struck; a basis that names it becomes empty.
     fn mark_struck(&mut self, position: i64)
-        requires good { Good (meaning self.old.problem) (state_of self.old) }
+        requires good { Good (P.meaning self.old.problem) (state_of self.old) }
         requires accepted { StrikeAnswer (state_of self.old) position (Ok tt) }
         ensures after { StruckAt position (state_of self.old) (state_of self.new) }
         ensures problem { self.new.problem ≡ self.old.problem }
-        ensures good { Good (meaning self.new.problem) (state_of self.new) }
+        ensures good { Good (P.meaning self.new.problem) (state_of self.new) }
     {
         self.basis = basis_without(self.basis, position);
         self.table.set_mark(position as usize, Mark::Struck);
@@ -150,12 +150,12 @@ impl<P: Problem> Working<P> {
 
     // Strikes one open row.
     pub fn strike(&mut self, position: i64) -> Result<(), Refusal>
-        requires { Good (meaning self.old.problem) (state_of self.old) }
+        requires { Good (P.meaning self.old.problem) (state_of self.old) }
         ensures answer { StrikeAnswer (state_of self.old) position result }
         ensures after { Became result (state_of self.old) (λ t. StruckAt position (state_of self.old) t) (state_of self.new) }
         ensures problem { self.new.problem ≡ self.old.problem }
-        ensures good { Good (meaning self.new.problem) (state_of self.new) }
-        ensures day { Extends (meaning self.old.problem) (working (state_of self.old)) (striking position) (working (state_of self.new)) }
+        ensures good { Good (P.meaning self.new.problem) (state_of self.new) }
+        ensures day { Extends (P.meaning self.old.problem) (working (state_of self.old)) (striking position) (working (state_of self.new)) }
     {
         match self.judge_strike(position) {
             Ok(()) => {
@@ -178,23 +178,23 @@ impl<P: Problem> Working<P> {
 
     // Marks one struck row open.
     fn mark_open(&mut self, position: i64)
-        requires good { Good (meaning self.old.problem) (state_of self.old) }
+        requires good { Good (P.meaning self.old.problem) (state_of self.old) }
         requires accepted { RestoreAnswer (state_of self.old) position (Ok tt) }
         ensures after { state_of self.new ≡ restored position (state_of self.old) }
         ensures problem { self.new.problem ≡ self.old.problem }
-        ensures good { Good (meaning self.new.problem) (state_of self.new) }
+        ensures good { Good (P.meaning self.new.problem) (state_of self.new) }
     {
         self.table.set_mark(position as usize, Mark::Open);
     }
 
     // Opens one struck row again.
     pub fn restore(&mut self, position: i64) -> Result<(), Refusal>
-        requires { Good (meaning self.old.problem) (state_of self.old) }
+        requires { Good (P.meaning self.old.problem) (state_of self.old) }
         ensures answer { RestoreAnswer (state_of self.old) position result }
         ensures after { Became result (state_of self.old) (λ t. t ≡ restored position (state_of self.old)) (state_of self.new) }
         ensures problem { self.new.problem ≡ self.old.problem }
-        ensures good { Good (meaning self.new.problem) (state_of self.new) }
-        ensures day { Extends (meaning self.old.problem) (working (state_of self.old)) (restoring position) (working (state_of self.new)) }
+        ensures good { Good (P.meaning self.new.problem) (state_of self.new) }
+        ensures day { Extends (P.meaning self.old.problem) (working (state_of self.old)) (restoring position) (working (state_of self.new)) }
     {
         match self.judge_restore(position) {
             Ok(()) => {
@@ -207,15 +207,15 @@ impl<P: Problem> Working<P> {
 
     // A check goes on with every day that led here.
     fn checked(&self, list: &Positions)
-        ensures { Extends (meaning self.now.problem) (working (state_of self.now)) (checking (positions list.now)) (working (state_of self.now)) }
+        ensures { Extends (P.meaning self.now.problem) (working (state_of self.now)) (checking (positions list.now)) (working (state_of self.now)) }
     {}
 
     // Whether the list is a basis of the open rows.
     pub fn check(&self, list: &Positions) -> Result<(), Refusal>
-        requires { Good (meaning self.now.problem) (state_of self.now) }
-        ensures answer { CheckAnswer (meaning self.now.problem) (state_of self.now).rows (positions list.now) result }
-        ensures passes { Decides (is_ok result) (BasisOfOpen (meaning self.now.problem) (state_of self.now).rows (positions list.now)) }
-        ensures day { Extends (meaning self.now.problem) (working (state_of self.now)) (checking (positions list.now)) (working (state_of self.now)) }
+        requires { Good (P.meaning self.now.problem) (state_of self.now) }
+        ensures answer { CheckAnswer (P.meaning self.now.problem) (state_of self.now).rows (positions list.now) result }
+        ensures passes { Decides (is_ok result) (BasisOfOpen (P.meaning self.now.problem) (state_of self.now).rows (positions list.now)) }
+        ensures day { Extends (P.meaning self.now.problem) (working (state_of self.now)) (checking (positions list.now)) (working (state_of self.now)) }
     {
         self.checked(list);
         check_table(&self.problem, &self.table, self.used, list)

@@ -27,13 +27,13 @@ fn walk_first<P: Problem>(
     count: usize,
     basis: &mut Positions,
 ) -> Counts
-    requires admitted { Admitted (meaning problem.now) (map (λ row. row.constraint) (take count table.now.rows)) }
-    requires stands { Stands (meaning problem.now) (picked (take count table.now.rows) (positions basis.old)) }
+    requires admitted { Admitted (P.meaning problem.now) (map (λ row. row.constraint) (take count table.now.rows)) }
+    requires stands { Stands (P.meaning problem.now) (picked (take count table.now.rows) (positions basis.old)) }
     requires filed { OnOpen (take count table.now.rows) (positions basis.old) }
     requires below { AllBelow order.now count }
     requires room { count ≤ 256 }
-    ensures ends { WalkEnds (meaning problem.now) (take count table.now.rows) (take count order.now) (positions basis.old) (positions basis.new) result.tests result.exchanges }
-    ensures law { WalkLaw (meaning problem.now) (take count table.now.rows) (take count order.now) (positions basis.old) }
+    ensures ends { WalkEnds (P.meaning problem.now) (take count table.now.rows) (take count order.now) (positions basis.old) (positions basis.new) result.tests result.exchanges }
+    ensures law { WalkLaw (P.meaning problem.now) (take count table.now.rows) (take count order.now) (positions basis.old) }
 {
     walk(problem, table.first(count), &order[0..count], basis)
 }
@@ -41,11 +41,11 @@ fn walk_first<P: Problem>(
 impl<P: Problem> Working<P> {
     // Puts the rows in use into the order that a seed gives.
     pub fn shuffle(&mut self, seed: u32)
-        requires { Good (meaning self.old.problem) (state_of self.old) }
+        requires { Good (P.meaning self.old.problem) (state_of self.old) }
         ensures after { state_of self.new ≡ with_order (shuffled (length (state_of self.old).rows) seed) (state_of self.old) }
         ensures problem { self.new.problem ≡ self.old.problem }
-        ensures good { Good (meaning self.new.problem) (state_of self.new) }
-        ensures day { Extends (meaning self.old.problem) (working (state_of self.old)) (shuffling seed) (working (state_of self.new)) }
+        ensures good { Good (P.meaning self.new.problem) (state_of self.new) }
+        ensures day { Extends (P.meaning self.old.problem) (working (state_of self.old)) (shuffling seed) (working (state_of self.new)) }
     {
         let count = self.table.first(self.used).len();
         shuffle(&mut self.order, count, seed);
@@ -53,12 +53,12 @@ impl<P: Problem> Working<P> {
 
     // Walks through the order to a basis of the open rows.
     pub fn settle(self) -> Settled<P>
-        requires { Good (meaning self.problem) (state_of self) }
-        ensures walked { WalkEnds (meaning self.problem) (state_of self).rows (state_of self).order (state_of self).basis (settled_state result).basis result.counts.tests result.counts.exchanges }
+        requires { Good (P.meaning self.problem) (state_of self) }
+        ensures walked { WalkEnds (P.meaning self.problem) (state_of self).rows (state_of self).order (state_of self).basis (settled_state result).basis result.counts.tests result.counts.exchanges }
         ensures state { settled_state result ≡ with_basis (settled_state result).basis (state_of self) }
         ensures problem { result.register.problem ≡ self.problem }
-        ensures good { Good (meaning result.register.problem) (settled_state result) }
-        ensures day { Extends (meaning self.problem) (working (state_of self)) settling (settled_phase result) }
+        ensures good { Good (P.meaning result.register.problem) (settled_state result) }
+        ensures day { Extends (P.meaning self.problem) (working (state_of self)) settling (settled_phase result) }
     {
         let Working {
             problem,
@@ -82,7 +82,7 @@ impl<P: Problem> Working<P> {
 
     // What the problem answers for the filed basis.
     fn answered(&self) -> Result<P::Answer, Refusal>
-        ensures { AnswerAnswer (meaning self.now.problem) (P.Problem.reads self.now.problem) (state_of self.now).rows (state_of self.now).basis result }
+        ensures { AnswerAnswer (P.meaning self.now.problem) (P.Problem.reads self.now.problem) (state_of self.now).rows (state_of self.now).basis result }
     {
         self.problem
             .answer(self.table.first(self.used), &self.basis)
@@ -90,8 +90,8 @@ impl<P: Problem> Working<P> {
 
     // The answer for the filed basis, which is not refused.
     pub(crate) fn best(&self) -> P::Answer
-        requires { Good (meaning self.now.problem) (state_of self.now) }
-        ensures { (o : Option (meaning self.now.problem).Rival) × P.Problem.reads self.now.problem result o × Best (meaning self.now.problem) (picked (state_of self.now).rows (state_of self.now).basis) o }
+        requires { Good (P.meaning self.now.problem) (state_of self.now) }
+        ensures { (o : Option (P.meaning self.now.problem).Rival) × P.Problem.reads self.now.problem result o × Best (P.meaning self.now.problem) (picked (state_of self.now).rows (state_of self.now).basis) o }
     {
         match self.answered() {
             Ok(answer) => answer,

@@ -7,11 +7,11 @@ use Rattle.bounds.specs.Sides.{box_around, with_points}
 use Rattle.bounds.proofs.Around.{around_two}
 use Rattle.bounds.proofs.sides.around_others.Goals as goal
 
-pub with-points-before-requires : goal.with-points-before-requires
-with-points-before-requires c = All-take (HasRow c.args.rows.now) (c.args.i - 0) c.args.list.now c.requires.0
+pub with_points-before-requires : goal.with_points-before-requires
+with_points-before-requires c = All-take (HasRow c.args.rows.now) (c.args.i - 0) c.args.list.now c.requires.0
 
-pub with-points-requires : goal.with-points-requires
-with-points-requires c =
+pub with_points-requires : goal.with_points-requires
+with_points-requires c =
     All-take (HasRow c.args.rows.now) (length c.args.list.now - (c.args.i + 1)) (drop (c.args.i + 1) c.args.list.now)
     (All-drop (HasRow c.args.rows.now) (c.args.i + 1) c.args.list.now c.requires.0)
 
@@ -21,7 +21,7 @@ returns c =
     let ps = c.args.list.now in
     let i = c.args.i in
     c.with_points.ensures
-    ∙ ap (λ k. with_points k (picked rows (take (length ps - (i + 1)) (drop (i + 1) ps)))) c.with-points-before.ensures
+    ∙ ap (λ k. with_points k (picked rows (take (length ps - (i + 1)) (drop (i + 1) ps)))) c.with_points-before.ensures
     ∙ around_two (picked rows (take (i - 0) ps)) (picked rows (take (length ps - (i + 1)) (drop (i + 1) ps)))
     ∙ ap box_around (sym (map-append (at rows) (take (i - 0) ps) (take (length ps - (i + 1)) (drop (i + 1) ps))))
     ∙ ap (λ n. box_around (picked rows (take n ps ++ take (length ps - (i + 1)) (drop (i + 1) ps)))) (sub-zero i)

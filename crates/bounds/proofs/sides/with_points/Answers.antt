@@ -6,15 +6,15 @@ use Rattle.bounds.specs.Sides.{with_point, with_points}
 use Rattle.bounds.proofs.Around.{points_more, points_all}
 use Rattle.bounds.proofs.sides.with_points.Goals as goal
 
-pub point-at-requires : goal.point-at-requires
-point-at-requires c = let h = All-get_or (HasRow c.args.rows.now) c.args.list.now c.loop-p.p-index (pos 0) c.loop-p-test.true c.requires in search rules
+pub point_at-requires : goal.point_at-requires
+point_at-requires c = let h = All-get_or (HasRow c.args.rows.now) c.args.list.now c.loop-p.p-index (pos 0) c.loop-p-test.true c.requires in search rules
 
 pub loop-p-preserved : goal.loop-p-preserved
 loop-p-preserved c =
     let i = c.loop-p.p-index in
     let f : SFits w64 (get_or c.args.list.now i (pos 0)) = search rules in
-    let x : c.point-at.result ≡ at c.args.rows.now (get_or c.args.list.now i (pos 0)) = c.point-at.ensures ∙ ap (at c.args.rows.now) (to_z-of_z w64 _ f) in
-    ap (λ k. with_points k (picked c.args.rows.now (drop (i + 1) c.args.list.now))) (c.with-point-sides.ensures ∙ ap (with_point c.loop-p.sides) x)
+    let x : c.point_at.result ≡ at c.args.rows.now (get_or c.args.list.now i (pos 0)) = c.point_at.ensures ∙ ap (at c.args.rows.now) (to_z-of_z w64 _ f) in
+    ap (λ k. with_points k (picked c.args.rows.now (drop (i + 1) c.args.list.now))) (c.with_point-sides.ensures ∙ ap (with_point c.loop-p.sides) x)
     ∙ sym (points_more c.args.rows.now c.args.list.now c.loop-p.sides i c.loop-p-test.true) ∙ c.loop-p.invariant
 
 pub returns : goal.returns

@@ -6,8 +6,8 @@ use Rattle.rows.specs.declared.row.Mark.TheVariants.{Open}
 use Rattle.rows.proofs.Placing.{all_places, all_refuted}
 use Rattle.checking.proofs.check.all_open.Goals as goal
 
-pub open-at-requires : goal.open-at-requires
-open-at-requires c =
+pub open_at-requires : goal.open_at-requires
+open_at-requires c =
     let rows = c.args.rows.now in
     let ps = c.args.list.now in
     let i = c.loop-p.p-index in

@@ -9,10 +9,10 @@ returns g c =
     let m = g.P.Problem.meaning c.args.problem.now in
     let rows = c.args.rows.now in
     let ps = positions c.args.list.now in
-    let n = subst (Named rows) c.as-slice-positions.ensures (c.all-named.ensures.0 c.if-not-all-named.false) in
-    let o = subst (AllOpen rows) c.as-slice-positions.ensures (c.all_open.ensures.0 c.if-not-all-open.false) in
-    let s = c.stands-list.ensures.0 c.if-not-stands-list.false in
+    let n = subst (Named rows) c.as_slice-positions.ensures (c.all_named.ensures.0 c.if-not-all_named.false) in
+    let o = subst (AllOpen rows) c.as_slice-positions.ensures (c.all_open.ensures.0 c.if-not-all_open.false) in
+    let s = c.stands_list.ensures.0 c.if-not-stands_list.false in
     record {
-      answer = answered m rows ps n o s c.search-rows.result c.search-rows.ensures;
-      passes = passes m (g.met.P.Problem.lawful c.args.problem.now) rows c.requires.0 ps n o s c.search-rows.result c.search-rows.ensures;
+      answer = answered m rows ps n o s c.search_rows.result c.search_rows.ensures;
+      passes = passes m (g.met.P.Problem.lawful c.args.problem.now) rows c.requires.0 ps n o s c.search_rows.result c.search_rows.ensures;
     }

@@ -5,11 +5,11 @@ use Rattle.disc.specs.declared.vector.Vector.{Vector}
 use Rattle.disc.proofs.Products.{two_fit, three_fit, sum_of_three}
 use Rattle.disc.proofs.centre.centre_y.Goals as goal
 
-pub overflow-add-result : goal.overflow-add-result
-overflow-add-result c = two_fit c.lever.ensures.value c.lever.ensures.bound c.lever-2.ensures.value c.lever-2.ensures.bound tt tt
+pub overflow_add-result : goal.overflow_add-result
+overflow_add-result c = two_fit c.lever.ensures.value c.lever.ensures.bound c.lever-2.ensures.value c.lever-2.ensures.bound tt tt
 
-pub overflow-add-result-2 : goal.overflow-add-result-2
-overflow-add-result-2 c = three_fit c.lever.ensures.value c.lever.ensures.bound c.lever-2.ensures.value c.lever-2.ensures.bound tt tt c.lever-3.ensures.value c.lever-3.ensures.bound tt
+pub overflow_add-result-2 : goal.overflow_add-result-2
+overflow_add-result-2 c = three_fit c.lever.ensures.value c.lever.ensures.bound c.lever-2.ensures.value c.lever-2.ensures.bound tt tt c.lever-3.ensures.value c.lever-3.ensures.bound tt
 
 -- the three coordinates that are passed as numbers
 abbrev at : Vector → Vector → Vector → ℤ → ℤ → ℤ → ℤ

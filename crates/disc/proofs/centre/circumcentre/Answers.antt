@@ -4,8 +4,8 @@ use Rattle.circles.proofs.Deciding.{turn_apart}
 use Rattle.disc.specs.Vectors.{eastward, northward}
 use Rattle.disc.proofs.centre.circumcentre.Goals as goal
 
-pub overflow-mul-result : goal.overflow-mul-result
-overflow-mul-result c = val_fits w64 (val_mul (val_lit (pos 2)) (val_result w64 c.turn.ensures.value c.turn.ensures.bound tt)) tt
+pub overflow_mul-result : goal.overflow_mul-result
+overflow_mul-result c = val_fits w64 (val_mul (val_lit (pos 2)) (val_result w64 c.turn.ensures.value c.turn.ensures.bound tt)) tt
 
 pub returns : goal.returns
 returns c =

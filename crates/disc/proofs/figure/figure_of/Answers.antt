@@ -14,5 +14,5 @@ returns-in-2 c = two_points c.args.rows.now c.args.list.now c.nth-in-2.result c.
 pub returns-in-3 : goal.returns-in-3
 returns-in-3 c = three_points c.args.rows.now c.args.list.now c.nth-in-3.result c.nth-in-3-2.result c.nth-in-3-3.result (omega arith) c.nth-in-3.ensures c.nth-in-3-2.ensures c.nth-in-3-3.ensures
 
-pub returns-in-default : goal.returns-in-default
-returns-in-default c = more_points c.args.rows.now c.args.list.now (omega arith)
+pub returns-in_default : goal.returns-in_default
+returns-in_default c = more_points c.args.rows.now c.args.list.now (omega arith)

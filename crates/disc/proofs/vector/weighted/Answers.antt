@@ -2,8 +2,8 @@ use Rattle.std.proofs.Common.{w64}
 use Rattle.algebra.proofs.Computed.{val_result, val_mul, through, val_fits, val_small}
 use Rattle.disc.proofs.vector.weighted.Goals as goal
 
-pub overflow-mul-result : goal.overflow-mul-result
-overflow-mul-result c = val_fits w64 (val_mul (val_result w64 c.square.ensures.value c.square.ensures.bound tt) (val_result w64 c.cross.ensures.value c.cross.ensures.bound tt)) tt
+pub overflow_mul-result : goal.overflow_mul-result
+overflow_mul-result c = val_fits w64 (val_mul (val_result w64 c.square.ensures.value c.square.ensures.bound tt) (val_result w64 c.cross.ensures.value c.cross.ensures.bound tt)) tt
 
 pub returns : goal.returns
 returns c =

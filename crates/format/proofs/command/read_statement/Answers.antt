@@ -9,22 +9,22 @@ use Rattle.format.proofs.command.read_statement.Goals as goal
 pub read-requires : goal.read-requires
 read-requires g c =
     let line = c.args.line.now in
-    let first = word_first g.W.Keyword.spelling line _ _ _ c.new-fields.ensures.left c.next-word.ensures in
-    subst (λ l. sized l ≤ 81) (sym first.1) (short_later line c.in-ok-within-limit.ensures.0)
+    let first = word_first g.W.Keyword.spelling line _ _ _ c.new-fields.ensures.left c.next_word.ensures in
+    subst (λ l. sized l ≤ 81) (sym first.1) (short_later line c.in_ok-within_limit.ensures.0)
 
 pub returns : goal.returns
 returns g c =
     let spelling = g.W.Keyword.spelling in
     let counts = g.W.Keyword.counts in
     let line = c.args.line.now in
-    let w = c.in-ok-word.word in
-    let zs = numbers_in c.in-ok-numbers.numbers in
-    let first = word_first spelling line _ _ _ c.new-fields.ensures.left c.next-word.ensures in
-    let word = judged_ok spelling counts c.next-word.result c.field-count.result w _ first.0 c.in-ok-word.ensures in
-    let count = subst (λ n. counts w n ≡ true) c.field-count.ensures.count word.1 in
-    let read = c.in-ok-numbers.ensures in
-    let whole = whole_line spelling w line zs (left c.next-word.new.fields) word.0 read.1 first.1 in (
-      c.in-ok-within-limit.ensures.0,
+    let w = c.in_ok-word.word in
+    let zs = numbers_in c.in_ok-numbers.numbers in
+    let first = word_first spelling line _ _ _ c.new-fields.ensures.left c.next_word.ensures in
+    let word = judged_ok spelling counts c.next_word.result c.field_count.result w _ first.0 c.in_ok-word.ensures in
+    let count = subst (λ n. counts w n ≡ true) c.field_count.ensures.count word.1 in
+    let read = c.in_ok-numbers.ensures in
+    let whole = whole_line spelling w line zs (left c.next_word.new.fields) word.0 read.1 first.1 in (
+      c.in_ok-within_limit.ensures.0,
       (
         (w, word.0),
         (

@@ -10,18 +10,18 @@ returns-in-Row g c =
     let w = c.args.register.now in
     let m = g.P.Problem.meaning w.problem in
     let s = state_of w in
-    let t = state_of c.enter-numbers.new.register in
-    let q = c.enter-numbers.result in
+    let t = state_of c.enter_numbers.new.register in
+    let q = c.enter_numbers.result in
     let fa : SFits w64 c.in-Row.a = search rules in
     let fb : SFits w64 c.in-Row.b = search rules in
     let fc : SFits w64 c.in-Row.c = search rules in
     let fp : SFits w64 c.in-Row.parish = search rules in
-    let a : RowAnswer m s c.in-Row.a c.in-Row.b c.in-Row.c c.in-Row.parish q = simp to_z-of_z at c.enter-numbers.ensures.answer in
-    let b : Became q s (λ u. u ≡ entered (constraint_of c.in-Row.a c.in-Row.b c.in-Row.c c.in-Row.parish) s) t = simp to_z-of_z at c.enter-numbers.ensures.after in
+    let a : RowAnswer m s c.in-Row.a c.in-Row.b c.in-Row.c c.in-Row.parish q = simp to_z-of_z at c.enter_numbers.ensures.answer in
+    let b : Became q s (λ u. u ≡ entered (constraint_of c.in-Row.a c.in-Row.b c.in-Row.c c.in-Row.parish) s) t = simp to_z-of_z at c.enter_numbers.ensures.after in
     record {
       answer = subst (λ k. CommandAnswer m s k c.says.result t) (sym c.in-Row.is) (q, c.says.ensures, a, b);
-      problem = c.enter-numbers.ensures.problem;
-      good = c.enter-numbers.ensures.good;
+      problem = c.enter_numbers.ensures.problem;
+      good = c.enter_numbers.ensures.good;
     }
 
 pub returns-in-Strike : goal.returns-in-Strike
@@ -63,9 +63,9 @@ returns-in-Check g c =
     let w = c.args.register.now in
     let m = g.P.Problem.meaning w.problem in
     let s = state_of w in
-    let q = c.check-numbers.result in
-    let a = subst (λ xs. HandedAnswer m s.rows xs q) c.as-slice.ensures c.check-numbers.ensures.answer in
-    let d = subst (λ xs. Decides (is_ok q) (HandedBasis m s.rows xs)) c.as-slice.ensures c.check-numbers.ensures.passes in
+    let q = c.check_numbers.result in
+    let a = subst (λ xs. HandedAnswer m s.rows xs q) c.as_slice.ensures c.check_numbers.ensures.answer in
+    let d = subst (λ xs. Decides (is_ok q) (HandedBasis m s.rows xs)) c.as_slice.ensures c.check_numbers.ensures.passes in
     record {
       answer = subst (λ k. CommandAnswer m s k c.says-in-Check.result s) (sym c.in-Check.is) (q, c.says-in-Check.ensures, a, d, refl);
       problem = refl;

@@ -9,7 +9,7 @@ loop-p-preserved c =
     let xs = c.args.list.now in
     let i = c.loop-p.p-index in
     let p = get_or xs i (pos 0) in
-    let b : string_bytes c.write.new.self ≡ string_bytes c.loop-p.text ++ (codes "," ++ signed_decimal p) = c.in-default.ensures.bytes in
+    let b : string_bytes c.write.new.self ≡ string_bytes c.loop-p.text ++ (codes "," ++ signed_decimal p) = c.in_default.ensures.bytes in
     b ∙ ap (λ bs. bs ++ (codes "," ++ signed_decimal p)) c.loop-p.invariant ∙ flat_map_more (λ (q : ℤ). codes "," ++ signed_decimal q) [] (take i xs) p
     ∙ sym (ap listed (take_more xs i (pos 0) c.loop-p-test.true))
 

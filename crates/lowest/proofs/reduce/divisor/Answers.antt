@@ -14,9 +14,9 @@ short d e m g f p k j =
     let l = divisor_small d m g p (subst (λ (n : ℕ). Gcd m n g) (size e d f k) j) in
     omega (arith, ints, abs_is d)
 
-pub overflow-cast-result : goal.overflow-cast-result
-overflow-cast-result c =
-    let l = short c.args.d c.unsigned-abs-3.result c.gcd.result c.gcd-2.result c.ranges.d c.requires c.unsigned-abs-3.ensures.value c.gcd-2.ensures in
+pub overflow_cast-result : goal.overflow_cast-result
+overflow_cast-result c =
+    let l = short c.args.d c.unsigned_abs-3.result c.gcd.result c.gcd-2.result c.ranges.d c.requires c.unsigned_abs-3.ensures.value c.gcd-2.ensures in
     omega (arith, ints)
 
 pub returns : goal.returns
@@ -26,8 +26,8 @@ returns c =
     let d = c.args.d in
     let m = c.gcd.result in
     let g = c.gcd-2.result in
-    let i : Gcd (nat_abs x) (nat_abs y) m = subst (λ (n : ℕ). Gcd (nat_abs x) n m) (size c.unsigned-abs-2.result y c.ranges.y c.unsigned-abs-2.ensures.value)
-    (subst (λ (n : ℕ). Gcd n c.unsigned-abs-2.result m) (size c.unsigned-abs.result x c.ranges.x c.unsigned-abs.ensures.value) c.gcd.ensures) in
-    let j : Gcd m (nat_abs d) g = subst (λ (n : ℕ). Gcd m n g) (size c.unsigned-abs-3.result d c.ranges.d c.unsigned-abs-3.ensures.value) c.gcd-2.ensures in
-    let l = short d c.unsigned-abs-3.result m g c.ranges.d c.requires c.unsigned-abs-3.ensures.value c.gcd-2.ensures in
+    let i : Gcd (nat_abs x) (nat_abs y) m = subst (λ (n : ℕ). Gcd (nat_abs x) n m) (size c.unsigned_abs-2.result y c.ranges.y c.unsigned_abs-2.ensures.value)
+    (subst (λ (n : ℕ). Gcd n c.unsigned_abs-2.result m) (size c.unsigned_abs.result x c.ranges.x c.unsigned_abs.ensures.value) c.gcd.ensures) in
+    let j : Gcd m (nat_abs d) g = subst (λ (n : ℕ). Gcd m n g) (size c.unsigned_abs-3.result d c.ranges.d c.unsigned_abs-3.ensures.value) c.gcd-2.ensures in
+    let l = short d c.unsigned_abs-3.result m g c.ranges.d c.requires c.unsigned_abs-3.ensures.value c.gcd-2.ensures in
     subst (Divisor x y d) (sym (to_z_pos w64 g l)) (divisor_of x y d m g c.requires i j)

@@ -23,9 +23,9 @@ returns c =
     let y = c.args.y in
     let d = c.args.d in
     let g = c.divisor-g.result in
-    let fg : SFits w64 g = record { sfits = c.divisor-g.type-inv } in
+    let fg : SFits w64 g = record { sfits = c.divisor-g.type_inv } in
     let i = passed x y d g c.ranges.x c.ranges.y c.ranges.d c.divisor-g.ensures in
     lowest_terms x y d g (to_z w64 (of_z w64 c.quotient.result)) (to_z w64 (of_z w64 c.quotient-2.result)) (to_z w64 (of_z w64 c.quotient-3.result)) c.requires i
-    (exact x g c.quotient.result c.ranges.x fg (record { sfits = c.quotient.type-inv }) i.above i.of_x c.quotient.ensures)
-    (exact y g c.quotient-2.result c.ranges.y fg (record { sfits = c.quotient-2.type-inv }) i.above i.of_y c.quotient-2.ensures)
-    (exact d g c.quotient-3.result c.ranges.d fg (record { sfits = c.quotient-3.type-inv }) i.above i.of_d c.quotient-3.ensures)
+    (exact x g c.quotient.result c.ranges.x fg (record { sfits = c.quotient.type_inv }) i.above i.of_x c.quotient.ensures)
+    (exact y g c.quotient-2.result c.ranges.y fg (record { sfits = c.quotient-2.type_inv }) i.above i.of_y c.quotient-2.ensures)
+    (exact d g c.quotient-3.result c.ranges.d fg (record { sfits = c.quotient-3.type_inv }) i.above i.of_d c.quotient-3.ensures)

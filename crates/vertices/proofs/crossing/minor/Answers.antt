@@ -14,8 +14,8 @@ difference : (a b c d : ℤ) → within 1000000 a ≡ true → within 1000000 b 
     (a *ℤ d -ℤ c *ℤ b)
 difference a b c d p q r s = val_sub (through w64 (val_mul (wide a p) (wide d s)) tt) (through w64 (val_mul (wide c r) (wide b q)) tt)
 
-pub overflow-sub-result : goal.overflow-sub-result
-overflow-sub-result k = val_fits w64 (difference k.args.a k.args.b k.args.c k.args.d k.requires.0 k.requires.1.0 k.requires.1.1.0 k.requires.1.1.1) tt
+pub overflow_sub-result : goal.overflow_sub-result
+overflow_sub-result k = val_fits w64 (difference k.args.a k.args.b k.args.c k.args.d k.requires.0 k.requires.1.0 k.requires.1.1.0 k.requires.1.1.1) tt
 
 pub returns : goal.returns
 returns k = (through w64 (difference k.args.a k.args.b k.args.c k.args.d k.requires.0 k.requires.1.0 k.requires.1.1.0 k.requires.1.1.1) tt).is

@@ -16,4 +16,4 @@ returns g c =
     let z = to_z_pos w64 i f in
     let at_least : pos 0 ≤ℤ pos i = omega (arith, ints) in
     let n : Named rows (pos i ∷ ps) = ((at_least, c.requires.there), c.requires.filed.named) in
-    raised_by m rows c.requires.filed.admitted ps (pos i) n c.requires.stands c.quiet-at.result (subst (λ p. Decides c.quiet-at.result (QuietAt m rows ps p)) z c.quiet-at.ensures)
+    raised_by m rows c.requires.filed.admitted ps (pos i) n c.requires.stands c.quiet_at.result (subst (λ p. Decides c.quiet_at.result (QuietAt m rows ps p)) z c.quiet_at.ensures)

@@ -5,5 +5,5 @@ use Rattle.bounds.proofs.Answering.{stands_answer}
 use Rattle.bounds.proofs.problem.BoundsProblem.stands.Goals as goal
 
 pub returns : goal.returns
-returns c = subst (λ t. StandsAnswer boxes c.args.rows.now t (Ok c.all-needed.result)) c.as-slice-s.ensures
-    (stands_answer c.args.rows.now c.as-slice-s.result.now c.all-needed.result c.all-needed.ensures c.in-ok-sound.ensures)
+returns c = subst (λ t. StandsAnswer boxes c.args.rows.now t (Ok c.all_needed.result)) c.as_slice-s.ensures
+    (stands_answer c.args.rows.now c.as_slice-s.result.now c.all_needed.result c.all_needed.ensures c.in_ok-sound.ensures)

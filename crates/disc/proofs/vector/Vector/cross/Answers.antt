@@ -3,8 +3,8 @@ use Rattle.algebra.proofs.Computed.{val_sub, through, val_fits, val_small}
 use Rattle.disc.proofs.Products.{product}
 use Rattle.disc.proofs.vector.Vector.cross.Goals as goal
 
-pub overflow-sub-result : goal.overflow-sub-result
-overflow-sub-result c = val_fits w64 (val_sub (product c.requires.0.east c.requires.1.north) (product c.requires.0.north c.requires.1.east)) tt
+pub overflow_sub-result : goal.overflow_sub-result
+overflow_sub-result c = val_fits w64 (val_sub (product c.requires.0.east c.requires.1.north) (product c.requires.0.north c.requires.1.east)) tt
 
 pub returns : goal.returns
 returns c =

@@ -3,8 +3,8 @@ use Rattle.algebra.proofs.Computed.{val_add, through, val_fits, val_small}
 use Rattle.disc.proofs.Products.{product}
 use Rattle.disc.proofs.vector.Vector.dot.Goals as goal
 
-pub overflow-add-result : goal.overflow-add-result
-overflow-add-result c = val_fits w64 (val_add (product c.requires.0.east c.requires.1.east) (product c.requires.0.north c.requires.1.north)) tt
+pub overflow_add-result : goal.overflow_add-result
+overflow_add-result c = val_fits w64 (val_add (product c.requires.0.east c.requires.1.east) (product c.requires.0.north c.requires.1.north)) tt
 
 pub returns : goal.returns
 returns c =

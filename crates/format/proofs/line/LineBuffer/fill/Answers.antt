@@ -5,11 +5,11 @@ use Rattle.format.specs.Line.{Holds}
 use Rattle.format.proofs.Collecting.{end_at, no_end, lines_open}
 use Rattle.format.proofs.line.LineBuffer.fill.Goals as goal
 
-pub returns-then-ends-line : goal.returns-then-ends-line
-returns-then-ends-line c xs h w =
+pub returns-then-ends_line : goal.returns-then-ends_line
+returns-then-ends_line c xs h w =
     let bytes = c.args.bytes.now in
     let i = c.loop-i.i in
-    (xs ++ take i bytes, c.loop-i.invariant.0 xs h, omega arith, end_at xs bytes i w c.loop-i-test.true c.loop-i.invariant.1 (eqb-true (get_or bytes i 0) 10 (sym c.ends-line.ensures ∙ c.if-ends-line.true)))
+    (xs ++ take i bytes, c.loop-i.invariant.0 xs h, omega arith, end_at xs bytes i w c.loop-i-test.true c.loop-i.invariant.1 (eqb-true (get_or bytes i 0) 10 (sym c.ends_line.ensures ∙ c.if-ends_line.true)))
 
 pub loop-i-preserved : goal.loop-i-preserved
 loop-i-preserved c =
@@ -19,7 +19,7 @@ loop-i-preserved c =
           let e : (xs ++ take i bytes) ++ (get_or bytes i 0 ∷ []) ≡ xs ++ take (i + 1) bytes =
           append_assoc xs (take i bytes) (get_or bytes i 0 ∷ []) ∙ ap (λ l. xs ++ l) (sym (take_more bytes i 0 c.loop-i-test.true)) in
           subst (Holds c.push.new.self) e (c.push.ensures (xs ++ take i bytes) (c.loop-i.invariant.0 xs h)),
-      below_more _ _ c.loop-i.invariant.1 (eqb-false (get_or bytes i 0) 10 (sym c.ends-line.ensures ∙ c.if-ends-line.false)),
+      below_more _ _ c.loop-i.invariant.1 (eqb-false (get_or bytes i 0) 10 (sym c.ends_line.ensures ∙ c.if-ends_line.false)),
     )
 
 pub returns : goal.returns

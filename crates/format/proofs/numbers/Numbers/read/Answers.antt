@@ -7,7 +7,7 @@ use Rattle.format.proofs.numbers.Numbers.read.Goals as goal
 use Rattle.format.proofs.numbers.Numbers.read.Goals.{In-Some}
 
 -- the field that was handed out is the first of those left
-first : (c : In-Some) → Filled (left c.args.fields) (bytes_of c.in-Some.token ∷ left c.next-token.new.self) (numbers_in c.loop-token.numbers)
+first : (c : In-Some) → Filled (left c.args.fields) (bytes_of c.in-Some.token ∷ left c.next_token.new.self) (numbers_in c.loop-token.numbers)
 first c = subst (λ l. Filled (left c.args.fields) l (numbers_in c.loop-token.numbers)) c.in-Some.ensures.0.0 c.loop-token.invariant
 
 pub push-requires : goal.push-requires
@@ -15,9 +15,9 @@ push-requires c =
     let w = c.in-Some-number.ensures c.in-Some.ensures.1 in
     filled_room _ _ _ _ (first (goal.at.push-requires c).In-Some) c.requires (c.in-Some-number.number, w)
 
-pub returns-in-default-number : goal.returns-in-default-number
-returns-in-default-number c =
-    inl (refl, filled_stop _ _ _ _ (first (goal.at.returns-in-default-number c).In-Some) (c.in-default-number.ensures c.in-Some.ensures.1))
+pub returns-in_default-number : goal.returns-in_default-number
+returns-in_default-number c =
+    inl (refl, filled_stop _ _ _ _ (first (goal.at.returns-in_default-number c).In-Some) (c.in_default-number.ensures c.in-Some.ensures.1))
 
 pub loop-token-preserved : goal.loop-token-preserved
 loop-token-preserved c =
@@ -30,4 +30,4 @@ loop-token-preserved c =
 
 pub returns : goal.returns
 returns c =
-    filled_all _ _ (subst (λ l. Filled (left c.args.fields) l (numbers_in c.loop-token.numbers)) c.in-default.ensures.0 c.loop-token.invariant)
+    filled_all _ _ (subst (λ l. Filled (left c.args.fields) l (numbers_in c.loop-token.numbers)) c.in_default.ensures.0 c.loop-token.invariant)

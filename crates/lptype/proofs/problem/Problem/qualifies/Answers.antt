@@ -10,4 +10,4 @@ loop-p-init g c = (search rules, all_refuted (QuietAt (g.Self.Problem.meaning c.
 pub returns : goal.returns
 returns g c =
     let a = all_places (QuietAt (g.Self.Problem.meaning c.args.self.now) c.args.rows.now (positions c.args.list.now)) c.args.pool.now (λ k l. c.loop-p.invariant.0 k (omega arith)) in
-    ((λ e. (c.stands-at.ensures.0 e, a)), λ q. c.stands-at.ensures.1 q.0)
+    ((λ e. (c.stands_at.ensures.0 e, a)), λ q. c.stands_at.ensures.1 q.0)

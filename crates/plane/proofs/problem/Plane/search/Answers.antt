@@ -9,8 +9,8 @@ use Rattle.vertices.specs.Vertices.{no_limit}
 use Rattle.plane.proofs.Lines.{lines_more, lines_all}
 use Rattle.plane.proofs.problem.Plane.search.Goals as goal
 
-pub with-line-least-requires : goal.with-line-least-requires
-with-line-least-requires c =
+pub with_line-least-requires : goal.with_line-least-requires
+with_line-least-requires c =
     let G = c.args.limits.now in
     let i = c.loop-i.i in
     (All-get_or Bounded G i no_limit c.loop-i-test.true c.requires, All-take Bounded (length G - (i + 1)) (drop (i + 1) G) (All-drop Bounded (i + 1) G c.requires))
@@ -22,7 +22,7 @@ loop-i-preserved c =
     let i = c.loop-i.i in
     let v = found c.loop-i.least in
     ap (λ w. best fs G w (crossings (drop (i + 1) G)))
-    (c.with-line-least.ensures ∙ ap (λ H. best fs G v (crossings_with (get_or G i no_limit) H)) (take_rest G (i + 1)))
+    (c.with_line-least.ensures ∙ ap (λ H. best fs G v (crossings_with (get_or G i no_limit) H)) (take_rest G (i + 1)))
     ∙ sym (lines_more fs G v G i c.loop-i-test.true) ∙ c.loop-i.invariant
 
 pub returns : goal.returns

@@ -8,5 +8,5 @@ pub returns : goal.returns
 returns g c =
     let w = c.args.self in
     let m = g.P.Problem.meaning w.register.problem in
-    let e = c.into-working.ensures in
+    let e = c.into_working.ensures in
     record { same = e; day = subst (λ r. Extends m (settled_phase w) reopening (working (state_of r))) (sym e) (extends m reopens) }

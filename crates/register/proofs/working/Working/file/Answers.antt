@@ -8,23 +8,20 @@ use Rattle.register.specs.State.{Good}
 use Rattle.register.proofs.Filing.{same_state, filed_entered, good_entered, below_entered, covers_entered}
 use Rattle.register.proofs.working.Working.file.Goals as goal
 
-pub invariant-of-self : goal.invariant-of-self
-invariant-of-self g c =
+pub invariant_of-self : goal.invariant_of-self
+invariant_of-self g c =
     let w = c.args.self.now in
     let u = w.used in
     let lr : u < length w.table.rows = omega (arith, c.put.ensures.size) in
     let lo : u < length w.order = search rules in
     let e : take (u + 1) c.put.new.self.rows ≡ take u w.table.rows ++ (open_row c.args.row ∷ []) =
-    ap (take (u + 1)) c.put.ensures.rows ∙ take_more_set w.table.rows u c.opened.result lr ∙ ap (λ r. take u w.table.rows ++ (r ∷ [])) c.opened.ensures in (
-      omega arith,
-      (
-        subst (λ rs. OnOpen rs (positions w.basis)) (sym e) (filed_entered (take u w.table.rows) (open_row c.args.row) (positions w.basis) w.filed),
-        (
-          subst (λ xs. AllBelow xs (u + 1)) (sym c.append.ensures) (below_entered w.order u lo w.below),
-          (subst (λ xs. Covers xs (u + 1)) (sym c.append.ensures) (covers_entered w.order u lo w.covers), tt),
-        ),
-      ),
-    )
+    ap (take (u + 1)) c.put.ensures.rows ∙ take_more_set w.table.rows u c.opened.result lr ∙ ap (λ r. take u w.table.rows ++ (r ∷ [])) c.opened.ensures in
+    record {
+      room = omega arith;
+      filed = subst (λ rs. OnOpen rs (positions w.basis)) (sym e) (filed_entered (take u w.table.rows) (open_row c.args.row) (positions w.basis) w.filed);
+      below = subst (λ xs. AllBelow xs (u + 1)) (sym c.append.ensures) (below_entered w.order u lo w.below);
+      covers = subst (λ xs. Covers xs (u + 1)) (sym c.append.ensures) (covers_entered w.order u lo w.covers);
+    }
 
 pub returns : goal.returns
 returns g c =

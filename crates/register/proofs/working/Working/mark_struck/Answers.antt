@@ -13,24 +13,24 @@ use Rattle.register.specs.State.{State, StruckAt, Emptied, with_mark}
 use Rattle.register.proofs.Filing.{rows_marked, filed_struck, good_struck}
 use Rattle.register.proofs.working.Working.mark_struck.Goals as goal
 
-pub set-mark-requires : goal.set-mark-requires
-set-mark-requires g c =
+pub set_mark-requires : goal.set_mark-requires
+set_mark-requires g c =
     let w = c.args.self.now in
     let z = to_z-of_z w64 c.args.position c.ranges.position in
     subst (λ (q : ℤ). nat_abs q < 256) (sym z) (omega (arith, c.requires.accepted.0.1, length-take w.used w.table.rows, w.room))
 
-pub invariant-of-self : goal.invariant-of-self
-invariant-of-self g c =
+pub invariant_of-self : goal.invariant_of-self
+invariant_of-self g c =
     let w = c.args.self.now in
     let p = c.args.position in
     let z = to_z-of_z w64 p c.ranges.position in
     let rows = take w.used w.table.rows in
     let h = c.requires.accepted.0 in
-    let e = subst (λ (q : ℤ). c.set-mark.new.self.rows ≡ set w.table.rows (nat_abs q) (marked Struck (get_or w.table.rows (nat_abs q) no_row))) z c.set-mark.ensures.rows in
-    let t = rows_marked Struck p w.table.rows c.set-mark.new.self.rows w.used h.1 e in
-    let b = positions c.basis-without-self.result in
-    let f = subst (λ (q : ℤ). Emptied q (positions w.basis) b) z c.basis-without-self.ensures in
-    (w.room, (subst (λ rs. OnOpen rs b) (sym t) (filed_struck p rows (positions w.basis) b h w.filed f), (w.below, (w.covers, tt))))
+    let e = subst (λ (q : ℤ). c.set_mark.new.self.rows ≡ set w.table.rows (nat_abs q) (marked Struck (get_or w.table.rows (nat_abs q) no_row))) z c.set_mark.ensures.rows in
+    let t = rows_marked Struck p w.table.rows c.set_mark.new.self.rows w.used h.1 e in
+    let b = positions c.basis_without-self.result in
+    let f = subst (λ (q : ℤ). Emptied q (positions w.basis) b) z c.basis_without-self.ensures in
+    record { room = w.room; filed = subst (λ rs. OnOpen rs b) (sym t) (filed_struck p rows (positions w.basis) b h w.filed f); below = w.below; covers = w.covers }
 
 pub returns : goal.returns
 returns g c =
@@ -40,13 +40,13 @@ returns g c =
     let z = to_z-of_z w64 p c.ranges.position in
     let rows = take w.used w.table.rows in
     let found = c.requires.accepted in
-    let e = subst (λ (q : ℤ). c.set-mark.new.self.rows ≡ set w.table.rows (nat_abs q) (marked Struck (get_or w.table.rows (nat_abs q) no_row))) z c.set-mark.ensures.rows in
-    let b = positions c.basis-without-self.result in
-    let t : State = record { rows = take w.used c.set-mark.new.self.rows; order = take w.used w.order; basis = b } in
+    let e = subst (λ (q : ℤ). c.set_mark.new.self.rows ≡ set w.table.rows (nat_abs q) (marked Struck (get_or w.table.rows (nat_abs q) no_row))) z c.set_mark.ensures.rows in
+    let b = positions c.basis_without-self.result in
+    let t : State = record { rows = take w.used c.set_mark.new.self.rows; order = take w.used w.order; basis = b } in
     let a : StruckAt p (state_of w) t = record {
-      rows = rows_marked Struck p w.table.rows c.set-mark.new.self.rows w.used found.0.1 e;
+      rows = rows_marked Struck p w.table.rows c.set_mark.new.self.rows w.used found.0.1 e;
       order = refl;
-      basis = subst (λ (q : ℤ). Emptied q (positions w.basis) b) z c.basis-without-self.ensures;
+      basis = subst (λ (q : ℤ). Emptied q (positions w.basis) b) z c.basis_without-self.ensures;
     } in
     record {
       after = a;

@@ -22,5 +22,5 @@ returns-in-Ok g c =
     let s = state_of w in
     let z = to_z-of_z w64 c.args.position c.ranges.position in
     let a = subst (λ (q : ℤ). RestoreAnswer s q (Ok tt)) z c.in-Ok.ensures in
-    let b = subst (λ (q : ℤ). state_of c.mark-open.new.self ≡ restored q s) z c.mark-open.ensures.after in
-    record { answer = a; after = b; problem = c.mark-open.ensures.problem; good = c.mark-open.ensures.good; day = extends m (restores c.args.position (Ok tt) a b) }
+    let b = subst (λ (q : ℤ). state_of c.mark_open.new.self ≡ restored q s) z c.mark_open.ensures.after in
+    record { answer = a; after = b; problem = c.mark_open.ensures.problem; good = c.mark_open.ensures.good; day = extends m (restores c.args.position (Ok tt) a b) }

@@ -8,11 +8,11 @@ use Rattle.register.proofs.Filing.{same_state}
 use Rattle.register.proofs.Keeping.{extends}
 use Rattle.register.proofs.working.Working.shuffle.Goals as goal
 
-pub invariant-of-self : goal.invariant-of-self
-invariant-of-self g c =
+pub invariant_of-self : goal.invariant_of-self
+invariant_of-self g c =
     let w = c.args.self.now in
     let n : length c.first-count.result.now ≡ w.used = ap length c.first-count.ensures.rows ∙ omega (arith, length-take w.used w.table.rows, c.first-count.ensures.size, w.room) in
-    (w.room, (w.filed, (subst (AllBelow c.shuffle.new.order) n c.shuffle.ensures.below, (subst (Covers c.shuffle.new.order) n c.shuffle.ensures.covers, tt))))
+    record { room = w.room; filed = w.filed; below = subst (AllBelow c.shuffle.new.order) n c.shuffle.ensures.below; covers = subst (Covers c.shuffle.new.order) n c.shuffle.ensures.covers }
 
 pub returns : goal.returns
 returns g c =

@@ -22,5 +22,5 @@ returns-in-Ok g c =
     let s = state_of w in
     let z = to_z-of_z w64 c.args.position c.ranges.position in
     let a = subst (λ (q : ℤ). StrikeAnswer s q (Ok tt)) z c.in-Ok.ensures in
-    let b = subst (λ (q : ℤ). StruckAt q s (state_of c.mark-struck.new.self)) z c.mark-struck.ensures.after in
-    record { answer = a; after = b; problem = c.mark-struck.ensures.problem; good = c.mark-struck.ensures.good; day = extends m (strikes c.args.position (Ok tt) a b) }
+    let b = subst (λ (q : ℤ). StruckAt q s (state_of c.mark_struck.new.self)) z c.mark_struck.ensures.after in
+    record { answer = a; after = b; problem = c.mark_struck.ensures.problem; good = c.mark_struck.ensures.good; day = extends m (strikes c.args.position (Ok tt) a b) }

@@ -18,12 +18,12 @@ loop-i-preserved c =
       simp length-set (omega arith),
     )
 
-pub invariant-of-result : goal.invariant-of-result
-invariant-of-result c =
+pub invariant_of-result : goal.invariant_of-result
+invariant_of-result c =
     let n = c.args.numbers.now in
     let e : c.loop-i.i ≡ length n = omega arith in
     let s = rw e at c.loop-i.invariant.0 in
-    (omega arith, (rising_same c.loop-i.at n (length n) s (c.rising.ensures.0 (search rules)), tt))
+    record { few = omega arith; rising = rising_same c.loop-i.at n (length n) s (c.rising.ensures.0 (search rules)) }
 
 pub returns : goal.returns
 returns c =

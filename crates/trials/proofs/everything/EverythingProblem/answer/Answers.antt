@@ -11,14 +11,14 @@ reads a o = o ≡ Some a
 pub returns-then-positions-gt0 : goal.returns-then-positions-gt0
 returns-then-positions-gt0 c =
     let rows = c.args.rows.now in
-    let s = c.as-slice-positions.result.now in
-    let q = c.in-ok-sound.ensures in
-    subst (λ ps. AnswerAnswer everything reads rows ps (Err NotStanding)) c.as-slice-positions.ensures (inr (q.0, inr (q.1.0, inl (refl, never_stands rows s c.if-positions-gt0.true))))
+    let s = c.as_slice-positions.result.now in
+    let q = c.in_ok-sound.ensures in
+    subst (λ ps. AnswerAnswer everything reads rows ps (Err NotStanding)) c.as_slice-positions.ensures (inr (q.0, inr (q.1.0, inl (refl, never_stands rows s c.if-positions-gt0.true))))
 
 pub returns : goal.returns
 returns c =
     let rows = c.args.rows.now in
-    let s = c.as-slice-positions.result.now in
-    let q = c.in-ok-sound.ensures in
+    let s = c.as_slice-positions.result.now in
+    let q = c.in_ok-sound.ensures in
     let l : length s ≡ 0 = omega (arith, c.if-positions-gt0.false) in
-    subst (λ ps. AnswerAnswer everything reads rows ps (Ok tt)) c.as-slice-positions.ensures (q.0, (q.1.0, (stands_at rows s l, (Some tt, refl, ((λ x i. tt), tt)))))
+    subst (λ ps. AnswerAnswer everything reads rows ps (Ok tt)) c.as_slice-positions.ensures (q.0, (q.1.0, (stands_at rows s l, (Some tt, refl, ((λ x i. tt), tt)))))

@@ -10,16 +10,16 @@ use Rattle.trials.proofs.everything.EverythingProblem.violates.Goals as goal
 pub returns-then-positions-gt0 : goal.returns-then-positions-gt0
 returns-then-positions-gt0 c =
     let rows = c.args.rows.now in
-    let s = c.as-slice-positions.result.now in
-    let q = subst (λ (h : ℤ). SoundAnswer everything rows (h ∷ s) (Ok tt)) (to_z-of_z w64 c.args.h c.ranges.h) c.in-ok-sound-with.ensures in
-    subst (λ ps. ViolatesAnswer everything rows ps c.args.h (Err NotStanding)) c.as-slice-positions.ensures
+    let s = c.as_slice-positions.result.now in
+    let q = subst (λ (h : ℤ). SoundAnswer everything rows (h ∷ s) (Ok tt)) (to_z-of_z w64 c.args.h c.ranges.h) c.in_ok-sound_with.ensures in
+    subst (λ ps. ViolatesAnswer everything rows ps c.args.h (Err NotStanding)) c.as_slice-positions.ensures
     (inr (q.0, inr (q.1.0, inl (refl, never_stands rows s c.if-positions-gt0.true))))
 
 pub returns : goal.returns
 returns c =
     let rows = c.args.rows.now in
-    let s = c.as-slice-positions.result.now in
-    let q = subst (λ (h : ℤ). SoundAnswer everything rows (h ∷ s) (Ok tt)) (to_z-of_z w64 c.args.h c.ranges.h) c.in-ok-sound-with.ensures in
+    let s = c.as_slice-positions.result.now in
+    let q = subst (λ (h : ℤ). SoundAnswer everything rows (h ∷ s) (Ok tt)) (to_z-of_z w64 c.args.h c.ranges.h) c.in_ok-sound_with.ensures in
     let l : length s ≡ 0 = omega (arith, c.if-positions-gt0.false) in
-    subst (λ ps. ViolatesAnswer everything rows ps c.args.h (Ok _)) c.as-slice-positions.ensures
+    subst (λ ps. ViolatesAnswer everything rows ps c.args.h (Ok _)) c.as_slice-positions.ensures
     (q.0, (q.1.0, (stands_at rows s l, ((λ e. absurd (false≢true e)), (λ e. absurd (true≢false e))))))

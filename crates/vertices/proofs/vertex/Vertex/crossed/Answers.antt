@@ -17,8 +17,8 @@ product s t u v r p q e =
     let z = small_add (small_mul (within_small 1000 u p) (within_small 2000000000 s.x s.xbound)) (small_mul (within_small 1000 v q) (within_small 2000000000 s.y s.ybound)) in
     val_mul (through w64 (record { is = e; size = z }) tt) (val_of w64 (within_small 2000000 t.d t.dbound) tt)
 
-pub overflow-mul-result : goal.overflow-mul-result
-overflow-mul-result c =
+pub overflow_mul-result : goal.overflow_mul-result
+overflow_mul-result c =
     let e = form_is c.args.self c.args.u c.args.v c.form.result c.ranges.u c.ranges.v c.form.ensures in
     val_fits w64 (product c.args.self c.args.other c.args.u c.args.v c.form.result c.requires.0 c.requires.1 e) tt
 

@@ -27,20 +27,17 @@ module _ (g h : Constraint) (p : Bounded g) (q : Bounded h) (x y d : ℤ) (e : S
   lists : (k : pos 0 <ℤ to_z w64 (of_z w64 d)) → with_numbers (to_z w64 (of_z w64 x)) (to_z w64 (of_z w64 y)) (to_z w64 (of_z w64 d)) k ∷ [] ≡ crossing g h
   lists k = ap (λ z. z ∷ []) (same_numbers (to_z w64 (of_z w64 x)) (to_z w64 (of_z w64 y)) (to_z w64 (of_z w64 d)) x y d k numbers.above x_read.is y_read.is d_read.is) ∙ sym (numbers.point numbers.above)
 
-pub invariant-of-result : goal.invariant-of-result
-invariant-of-result c =
+pub invariant_of-result : goal.invariant_of-result
+invariant_of-result c =
     let g = c.args.g in
     let h = c.args.h in
-    let e = c.in-Some.ensures in (
-      d_above g h c.requires.0 c.requires.1 c.in-Some.x c.in-Some.y c.in-Some.d e,
-      (
-        computed_within 2000000000 (omega arith) (x_read g h c.requires.0 c.requires.1 c.in-Some.x c.in-Some.y c.in-Some.d e),
-        (
-          computed_within 2000000000 (omega arith) (y_read g h c.requires.0 c.requires.1 c.in-Some.x c.in-Some.y c.in-Some.d e),
-          (computed_within 2000000 (omega arith) (d_read g h c.requires.0 c.requires.1 c.in-Some.x c.in-Some.y c.in-Some.d e), tt),
-        ),
-      ),
-    )
+    let e = c.in-Some.ensures in
+    record {
+      above = d_above g h c.requires.0 c.requires.1 c.in-Some.x c.in-Some.y c.in-Some.d e;
+      xbound = computed_within 2000000000 (omega arith) (x_read g h c.requires.0 c.requires.1 c.in-Some.x c.in-Some.y c.in-Some.d e);
+      ybound = computed_within 2000000000 (omega arith) (y_read g h c.requires.0 c.requires.1 c.in-Some.x c.in-Some.y c.in-Some.d e);
+      dbound = computed_within 2000000 (omega arith) (d_read g h c.requires.0 c.requires.1 c.in-Some.x c.in-Some.y c.in-Some.d e);
+    }
 
 pub returns-in-Some : goal.returns-in-Some
 returns-in-Some c = lists c.args.g c.args.h c.requires.0 c.requires.1 c.in-Some.x c.in-Some.y c.in-Some.d c.in-Some.ensures _

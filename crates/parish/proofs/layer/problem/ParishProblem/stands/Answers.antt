@@ -6,4 +6,4 @@ use Rattle.parish.proofs.layer.problem.ParishProblem.stands.Goals as goal
 pub returns : goal.returns
 returns g c =
     let p = c.args.self.now in
-    stands_answer (g.P.Problem.meaning p.below) (g.met.P.Problem.lawful p.below) p.parish c.args.rows.now (positions c.args.list.now) c.stands-inside.result c.stands-inside.ensures
+    stands_answer (g.P.Problem.meaning p.below) (g.met.P.Problem.lawful p.below) p.parish c.args.rows.now (positions c.args.list.now) c.stands_inside.result c.stands_inside.ensures

@@ -11,6 +11,6 @@ returns g c =
     let p = c.args.self.now in
     let m = g.P.Problem.meaning p.below in
     let ps = positions c.args.list.now in
-    let r = c.violates-inside.result in
+    let r = c.violates_inside.result in
     violates_answer m (g.met.P.Problem.lawful p.below) p.parish c.args.rows.now ps c.args.h r
-    (subst (λ h. ViolatesInside m p.parish c.args.rows.now ps h r) (to_z-of_z w64 c.args.h c.ranges.h) c.violates-inside.ensures)
+    (subst (λ h. ViolatesInside m p.parish c.args.rows.now ps h r) (to_z-of_z w64 c.args.h c.ranges.h) c.violates_inside.ensures)

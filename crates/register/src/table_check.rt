@@ -16,9 +16,9 @@ pub(crate) fn check_table<P: Problem>(
     used: usize,
     list: &Positions,
 ) -> Result<(), Refusal>
-    requires { (Admitted (meaning problem.now) (map (λ row. row.constraint) (take used table.now.rows))) × (used ≤ 256) }
-    ensures answer { CheckAnswer (meaning problem.now) (take used table.now.rows) (positions list.now) result }
-    ensures passes { Decides (is_ok result) (BasisOfOpen (meaning problem.now) (take used table.now.rows) (positions list.now)) }
+    requires { (Admitted (P.meaning problem.now) (map (λ row. row.constraint) (take used table.now.rows))) × (used ≤ 256) }
+    ensures answer { CheckAnswer (P.meaning problem.now) (take used table.now.rows) (positions list.now) result }
+    ensures passes { Decides (is_ok result) (BasisOfOpen (P.meaning problem.now) (take used table.now.rows) (positions list.now)) }
 {
     check_list(problem, table.first(used), list)
 }
