@@ -1,7 +1,7 @@
 -- Helly's theorem in the plane: where any three of the convex sets of a list meet, all do.
 -- By induction on the length of the list: four points, each without one of the first four sets, and the point between them.
 use Rattle.std.proofs.Common.{ℕ, zero, suc, ◌≤◌, List, [], ◌∷◌, length, pos, le_refl, arith}
-use Rattle.std.specs.List.{AllByRecursion as All}
+use Rattle.std.specs.List.{AllByRecursion}
 use Rattle.std.proofs.ByRecursion.{All-weaker}
 use Rattle.algebra.specs.Point.{Point}
 use Rattle.algebra.proofs.Signs.{suc_pos}
@@ -18,25 +18,25 @@ module _ {A : Type 0} (C : A → Point → Type 0) where
 
   -- any three of the list meet, repeats included
   abbrev pub AnyThree : List A → Type 0
-  AnyThree F = All (λ x. All (λ y. All (Meet x y) F) F) F
+  AnyThree F = AllByRecursion (λ x. AllByRecursion (λ y. AllByRecursion (Meet x y) F) F) F
 
   -- all of the list meet
   abbrev pub AllMeet : List A → Type 0
-  AllMeet F = (p : Point) × All (λ x. C x p) F
+  AllMeet F = (p : Point) × AllByRecursion (λ x. C x p) F
 
   -- what holds of each of G holds of each of F
   abbrev Inherits : List A → List A → Type 1
-  Inherits F G = (P : A → Type 0) → All P G → All P F
+  Inherits F G = (P : A → Type 0) → AllByRecursion P G → AllByRecursion P F
 
   fewer : (F G : List A) → Inherits F G → AnyThree G → AnyThree F
   fewer F G w h =
-      All-weaker (λ x. All (λ y. All (Meet x y) G) G) (λ x. All (λ y. All (Meet x y) F) F)
-      (λ x t. All-weaker (λ y. All (Meet x y) G) (λ y. All (Meet x y) F) (λ y. w (Meet x y)) F (w (λ y. All (Meet x y) G) t)) F
-      (w (λ x. All (λ y. All (Meet x y) G) G) h)
+      All-weaker (λ x. AllByRecursion (λ y. AllByRecursion (Meet x y) G) G) (λ x. AllByRecursion (λ y. AllByRecursion (Meet x y) F) F)
+      (λ x t. All-weaker (λ y. AllByRecursion (Meet x y) G) (λ y. AllByRecursion (Meet x y) F) (λ y. w (Meet x y)) F (w (λ y. AllByRecursion (Meet x y) G) t)) F
+      (w (λ x. AllByRecursion (λ y. AllByRecursion (Meet x y) G) G) h)
 
   module _ (convex : (x : A) → Convex (C x)) where
     -- the rest of the list, by any three of the four points
-    rest : (p q r s : Point) (m : BetweenFour C convex p q r s) (F : List A) → All (λ x. C x p) F → All (λ x. C x q) F → All (λ x. C x r) F → All (λ x. C x m.point) F
+    rest : (p q r s : Point) (m : BetweenFour C convex p q r s) (F : List A) → AllByRecursion (λ x. C x p) F → AllByRecursion (λ x. C x q) F → AllByRecursion (λ x. C x r) F → AllByRecursion (λ x. C x m.point) F
     rest p q r s m [] i j k = tt
     rest p q r s m (x ∷ F) i j k = (m.drop4 x i.0 j.0 k.0, rest p q r s m F i.1 j.1 k.1)
 

@@ -3,7 +3,7 @@ use Rattle.std.specs.Prelude.{◌≡◌, suc, ◌⊎◌, List, [], ◌∷◌, le
 use Rattle.std.proofs.Common.{sym, ◌∙◌, ap, subst, inl, inr, ⊎_elim, arith}
 use Rattle.std.specs.Int.Signed.{≤ℤ_refl}
 use Rattle.std.specs.Int.{int_max, int_min}
-use Rattle.std.specs.List.{AllByRecursion as All}
+use Rattle.std.specs.List.{AllByRecursion}
 use Rattle.std.proofs.lemmas.Int.{ints, clamps, by_lt_z}
 use Rattle.rows.specs.declared.row.Constraint.{Constraint}
 use Rattle.lptype.specs.Meaning.{In, Within}
@@ -101,12 +101,12 @@ stretch_same D x F y G v w = antisym (stretch_mono D x F y G v) (stretch_mono D 
 Hit : Constraint → List Constraint → List Constraint → Direction → Type 0
 Hit x F B d = (y : Constraint) × In y B × (reach d x F ≡ along d y)
 
-hit_more : (x : Constraint) (F B : List Constraint) (z : Constraint) (D : List Direction) → All (Hit x F B) D → All (Hit x F (z ∷ B)) D
+hit_more : (x : Constraint) (F B : List Constraint) (z : Constraint) (D : List Direction) → AllByRecursion (Hit x F B) D → AllByRecursion (Hit x F (z ∷ B)) D
 unfolding Hit
 hit_more x F B z [] h = tt
 hit_more x F B z (d ∷ D) h = ((h.0.0, inr h.0.1, h.0.2), hit_more x F B z D h.1)
 
-chosen : (D : List Direction) (x : Constraint) (F : List Constraint) → (B : List Constraint) × Within B (x ∷ F) × (length B ≡ length D) × All (Hit x F B) D
+chosen : (D : List Direction) (x : Constraint) (F : List Constraint) → (B : List Constraint) × Within B (x ∷ F) × (length B ≡ length D) × AllByRecursion (Hit x F B) D
 unfolding Hit
 chosen [] x F = ([], (λ y i. absurd i), refl, tt)
 chosen (d ∷ D) x F =
@@ -114,7 +114,7 @@ chosen (d ∷ D) x F =
     let c = chosen D x F in
     (t.0 ∷ c.0, (λ y. elim [ inl e ↦ subst (λ z. In z (x ∷ F)) (sym e) t.1 | inr i ↦ c.1 y i ]), ap suc c.2, ((t.0, inl refl, t.2), hit_more x F c.0 t.0 D c.3))
 
-hit_reach : (x : Constraint) (F : List Constraint) (y : Constraint) (B : List Constraint) (D : List Direction) → Within (y ∷ B) (x ∷ F) → All (Hit x F (y ∷ B)) D → stretch D y B ≡ stretch D x F
+hit_reach : (x : Constraint) (F : List Constraint) (y : Constraint) (B : List Constraint) (D : List Direction) → Within (y ∷ B) (x ∷ F) → AllByRecursion (Hit x F (y ∷ B)) D → stretch D y B ≡ stretch D x F
 unfolding Hit
 hit_reach x F y B [] w h = refl
 hit_reach x F y B (d ∷ D) w h =
@@ -136,7 +136,7 @@ few_reach d D x F =
 
 -- h lies no further than x and the rows of F reach, in each direction
 abbrev pub Inside : List Direction → Constraint → List Constraint → Constraint → Type 0
-Inside D x F h = All (λ d. along d h ≤ℤ reach d x F) D
+Inside D x F h = AllByRecursion (λ d. along d h ≤ℤ reach d x F) D
 
 -- each of the rows lies inside
 pub in_inside : (D : List Direction) (x : Constraint) (F : List Constraint) (h : Constraint) → In h (x ∷ F) → Inside D x F h

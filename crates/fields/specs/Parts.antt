@@ -1,6 +1,6 @@
 -- A list of bytes cut at one byte.
 use Rattle.std.specs.Prelude.{◌≡◌, ℕ, cond, List, [], ◌∷◌, ◌++◌, ◌==◌, ◌≢◌}
-use Rattle.std.specs.List.{AllByRecursion as All}
+use Rattle.std.specs.List.{AllByRecursion}
 
 -- the parts with b put before the first of them
 abbrev pub led : ℕ → List (List ℕ) → List (List ℕ)
@@ -19,8 +19,8 @@ rejoined sep (p ∷ []) = p
 rejoined sep (p ∷ q ∷ ps) = p ++ sep ∷ rejoined sep (q ∷ ps)
 
 abbrev pub Without : ℕ → List ℕ → Type 0
-Without sep p = All (λ b. b ≢ sep) p
+Without sep p = AllByRecursion (λ b. b ≢ sep) p
 
 -- ps are parts of bs, none of them holds sep, and they give bs back
 abbrev pub PartsOf : ℕ → List ℕ → List (List ℕ) → Type 0
-PartsOf sep bs ps = (rejoined sep ps ≡ bs) × All (Without sep) ps
+PartsOf sep bs ps = (rejoined sep ps ≡ bs) × AllByRecursion (Without sep) ps

@@ -2,7 +2,7 @@
 use Rattle.std.proofs.Common.{◌≡◌, ℕ, suc, ◌+◌, ◌*◌, ◌<◌, ◌≤◌, cond, eqb, List, [], ◌∷◌, ◌++◌, map, length, ℤ, pos, negsuc, decimal, sym, refl, ap, ◌∙◌, subst, append_assoc, append-nil, arith}
 use lib.ListN.{length-map}
 use Rattle.std.specs.Fmt.{signed_decimal}
-use Rattle.std.specs.List.{AllByRecursion as All}
+use Rattle.std.specs.List.{AllByRecursion}
 use Rattle.std.proofs.lemmas.Fmt.{decimal_nonempty}
 use Rattle.std.proofs.ByRecursion.{All-push}
 use Rattle.std.proofs.lemmas.List.{map_push}
@@ -15,7 +15,7 @@ use Rattle.format.specs.Numbers.{sized}
 -- zs are the numbers of the fields before those left
 pub record Filled (fs left : List (List ℕ)) (zs : List ℤ) : Type 0 where
   pub split : map signed_decimal zs ++ left ≡ fs
-  pub numbers : All IsNumber (map signed_decimal zs)
+  pub numbers : AllByRecursion IsNumber (map signed_decimal zs)
 
 some_bytes : (x : List ℕ) → IsNumber x → 0 < length x
 some_bytes x (pos n, w) = omega (arith, ap length w.0, decimal_nonempty n (omega arith))
@@ -25,11 +25,11 @@ sized_append : (xs ys : List (List ℕ)) → sized (xs ++ ys) ≡ sized xs + siz
 sized_append [] ys = omega arith
 sized_append (x ∷ xs) ys = omega (arith, sized_append xs ys)
 
-numbers_sized : (xs : List (List ℕ)) → All IsNumber xs → 2 * length xs ≤ sized xs
+numbers_sized : (xs : List (List ℕ)) → AllByRecursion IsNumber xs → 2 * length xs ≤ sized xs
 numbers_sized [] h = omega arith
 numbers_sized (x ∷ xs) h = omega (arith, some_bytes x h.0, numbers_sized xs h.1)
 
-all_at : (P : List ℕ → Type 0) (xs : List (List ℕ)) (y : List ℕ) (ys : List (List ℕ)) → All P (xs ++ y ∷ ys) → P y
+all_at : (P : List ℕ → Type 0) (xs : List (List ℕ)) (y : List ℕ) (ys : List (List ℕ)) → AllByRecursion P (xs ++ y ∷ ys) → P y
 all_at P [] y ys h = h.0
 all_at P (x ∷ xs) y ys h = all_at P xs y ys h.1
 
@@ -37,19 +37,19 @@ module _ (fs rest : List (List ℕ)) (zs : List ℤ) (x : List ℕ) (f : Filled 
   pub filled_more : (z : ℤ) → Writes x z → Filled fs rest (zs ++ z ∷ [])
   filled_more z w = record {
     split = ap (λ l. l ++ rest) (map_push signed_decimal zs z) ∙ append_assoc (map signed_decimal zs) (signed_decimal z ∷ []) rest ∙ ap (λ y. map signed_decimal zs ++ y ∷ rest) (sym w.0) ∙ f.split;
-    numbers = subst (All IsNumber) (sym (map_push signed_decimal zs z)) (All-push IsNumber (map signed_decimal zs) (signed_decimal z) f.numbers (z, (refl, w.1)));
+    numbers = subst (AllByRecursion IsNumber) (sym (map_push signed_decimal zs z)) (All-push IsNumber (map signed_decimal zs) (signed_decimal z) f.numbers (z, (refl, w.1)));
   }
 
-  pub filled_stop : (IsNumber x → ⊥) → All IsNumber fs → ⊥
-  filled_stop none all = none (all_at IsNumber (map signed_decimal zs) x rest (subst (All IsNumber) (sym f.split) all))
+  pub filled_stop : (IsNumber x → ⊥) → AllByRecursion IsNumber fs → ⊥
+  filled_stop none all = none (all_at IsNumber (map signed_decimal zs) x rest (subst (AllByRecursion IsNumber) (sym f.split) all))
 
   -- each number takes two bytes or more
   pub filled_room : sized fs ≤ 81 → IsNumber x → length zs < 40
   filled_room short n =
       omega (arith, ap sized f.split, sized_append (map signed_decimal zs) (x ∷ rest), numbers_sized (map signed_decimal zs) f.numbers, some_bytes x n, length-map zs signed_decimal)
 
-pub filled_all : (fs : List (List ℕ)) (zs : List ℤ) → Filled fs [] zs → All IsNumber fs × (map signed_decimal zs ≡ fs)
-filled_all fs zs f = let e = sym (append-nil (map signed_decimal zs)) ∙ f.split in (subst (All IsNumber) e f.numbers, e)
+pub filled_all : (fs : List (List ℕ)) (zs : List ℤ) → Filled fs [] zs → AllByRecursion IsNumber fs × (map signed_decimal zs ≡ fs)
+filled_all fs zs f = let e = sym (append-nil (map signed_decimal zs)) ∙ f.split in (subst (AllByRecursion IsNumber) e f.numbers, e)
 
 -- a line's fields are as large as the line
 pub sized_parts : (sep : ℕ) (bs : List ℕ) → sized (parts sep bs) ≡ length bs + 1

@@ -1,7 +1,7 @@
 -- What a line says, and what it is refused for.
 use Rattle.std.specs.Prelude.{◌≡◌, ℕ, ◌≤◌, Bool, true, List, [], ◌∷◌, map, length, drop, ℤ, pos, Result, slice_index_or}
 use Rattle.std.specs.Fmt.{signed_decimal}
-use Rattle.std.specs.List.{AllByRecursion as All}
+use Rattle.std.specs.List.{AllByRecursion}
 use Rattle.rows.specs.Judged.{Gives, Unless}
 use Rattle.rows.specs.declared.refusal.Refusal.{Refusal}
 use Rattle.rows.specs.declared.refusal.Refusal.TheVariants.{LongLine, UnknownWord, FieldCount, NoNumber, SeedRange}
@@ -36,7 +36,7 @@ LineJudged spelling counts K line =
     Unless LongLine (length line ≤ 80)
     (Unless UnknownWord (Listed spelling (first_field line))
     (Unless FieldCount (Counted spelling counts line)
-    (Unless NoNumber (All IsNumber (later_fields line))
+    (Unless NoNumber (AllByRecursion IsNumber (later_fields line))
     K)))
 
 -- a line of one of the words: refused for the first of its faults, else P holds of what it gives
@@ -78,7 +78,7 @@ command_values Settle = []
 -- after the word shuffle come seeds
 abbrev pub Seeded : List (List ℕ) → Type 0
 Seeded [] = Unit {0}
-Seeded (word ∷ later) = word ≡ command_spelling command.Shuffle → All WritesSeed later
+Seeded (word ∷ later) = word ≡ command_spelling command.Shuffle → AllByRecursion WritesSeed later
 
 -- the command that the fields write; refused where a seed is out of range
 abbrev pub CommandWritten : List (List ℕ) → Result Command Refusal → Type 0

@@ -1,7 +1,7 @@
 -- The numbers of a line.
 use Rattle.std.specs.Prelude.{◌≡◌, ℕ, ◌+◌, List, [], ◌∷◌, map, length, take, ℤ, Result}
 use Rattle.std.specs.Fmt.{signed_decimal}
-use Rattle.std.specs.List.{AllByRecursion as All}
+use Rattle.std.specs.List.{AllByRecursion}
 use Rattle.rows.specs.Judged.{Gives, Unless}
 use Rattle.rows.specs.declared.refusal.Refusal.{Refusal}
 use Rattle.rows.specs.declared.refusal.Refusal.TheVariants.{NoNumber}
@@ -18,4 +18,4 @@ sized (f ∷ fs) = length f + 1 + sized fs
 
 -- the numbers that the fields write; refused where a field writes none
 abbrev pub NumbersRead : List (List ℕ) → Result Numbers Refusal → Type 0
-NumbersRead fs = Unless NoNumber (All IsNumber fs) (Gives (λ n. map signed_decimal (numbers_in n) ≡ fs))
+NumbersRead fs = Unless NoNumber (AllByRecursion IsNumber fs) (Gives (λ n. map signed_decimal (numbers_in n) ≡ fs))

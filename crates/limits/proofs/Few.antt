@@ -1,6 +1,6 @@
 -- Three rows with the value of the whole list, by Helly's theorem.
 use Rattle.std.proofs.Common.{◌≡◌, ◌≤◌, true, List, [], ◌∷◌, length, ℤ, pos, ◌+ℤ◌, ◌-ℤ◌, ◌*ℤ◌, ◌≤ℤ◌, ◌<ℤ◌, sym, refl, subst, inl, inr, ⊎_elim, le_refl, arith}
-use Rattle.std.specs.List.{AllByRecursion as All}
+use Rattle.std.specs.List.{AllByRecursion}
 use Rattle.std.proofs.lemmas.Bool.{false≢true}
 use Rattle.rows.specs.declared.row.Constraint.{Constraint}
 use Rattle.lptype.specs.Meaning.{Value, finite, top, In, Within, Le, Equal}
@@ -104,7 +104,7 @@ module _ (fs : List Form) where
   bounded x F s h =
       let G = x ∷ F in
       let m = helly (Near fs s) (near_convex fs s) G
-      (all_from_in (λ y. All (λ z. All (Meet (Near fs s) y z) G) G) G (λ y i. all_from_in (λ z. All (Meet (Near fs s) y z) G) G (λ z j. all_from_in (Meet (Near fs s) y z) G (λ w k. three y z w (least_crossing fs (y ∷ z ∷ w ∷ [])) refl (h y z w i j k))))) in
+      (all_from_in (λ y. AllByRecursion (λ z. AllByRecursion (Meet (Near fs s) y z) G) G) G (λ y i. all_from_in (λ z. AllByRecursion (Meet (Near fs s) y z) G) G (λ z j. all_from_in (Meet (Near fs s) y z) G (λ w k. three y z w (least_crossing fs (y ∷ z ∷ w ∷ [])) refl (h y z w i j k))))) in
       let near : (y : Constraint) → In y G → Near fs s y m.0 = λ y i. all_in (λ z. Near fs s z m.0) G y m.1 i in
       (order fs).transitive (least_crossing fs (x ∷ F)) (finite m.0) (finite s)
       (value_least fs (x ∷ F) m.0 (one_limit m.0 x F (λ y i. (near y i).keeps)))

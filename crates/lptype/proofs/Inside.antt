@@ -1,6 +1,6 @@
 -- Lists by what occurs in them, and which rows of a list are admitted.
 use Rattle.std.proofs.Common.{◌≡◌, ◌⊎◌, List, [], ◌∷◌, ◌++◌, map, ℤ, sym, refl, ap, subst, inl, inr, ⊎_elim}
-use Rattle.std.specs.List.{AllByRecursion as All}
+use Rattle.std.specs.List.{AllByRecursion}
 use Rattle.rows.specs.Pool.{inserted}
 use Rattle.rows.proofs.Inserting.{between}
 use Rattle.rows.specs.Sublist.{Sublist, nothing, leave, keep}
@@ -9,16 +9,16 @@ use Rattle.lptype.specs.Meaning.{Meaning, In, Within, Admitted}
 use Rattle.lptype.specs.Places.{Fine}
 
 module _ {X : Type 0} where
-  pub all_in : (P : X → Type 0) (xs : List X) (x : X) → All P xs → In x xs → P x
+  pub all_in : (P : X → Type 0) (xs : List X) (x : X) → AllByRecursion P xs → In x xs → P x
   all_in P [] x a i = absurd i
   all_in P (y ∷ ys) x a (inl e) = subst P (sym e) a.0
   all_in P (y ∷ ys) x a (inr i) = all_in P ys x a.1 i
 
-  pub all_from_in : (P : X → Type 0) (xs : List X) → ((x : X) → In x xs → P x) → All P xs
+  pub all_from_in : (P : X → Type 0) (xs : List X) → ((x : X) → In x xs → P x) → AllByRecursion P xs
   all_from_in P [] h = tt
   all_from_in P (y ∷ ys) h = (h y (inl refl), all_from_in P ys (λ x i. h x (inr i)))
 
-  pub all_within : (P : X → Type 0) (xs ys : List X) → Within xs ys → All P ys → All P xs
+  pub all_within : (P : X → Type 0) (xs ys : List X) → Within xs ys → AllByRecursion P ys → AllByRecursion P xs
   all_within P xs ys w a = all_from_in P xs (λ x i. all_in P ys x a (w x i))
 
   pub in_left : (xs ys : List X) (x : X) → In x xs → In x (xs ++ ys)

@@ -1,6 +1,6 @@
 -- Named and admitted rows, by place in the list of positions.
 use Rattle.std.proofs.Common.{List, [], ◌∷◌, map, length, ℤ, pos}
-use Rattle.std.specs.List.{AllByRecursion as All}
+use Rattle.std.specs.List.{AllByRecursion}
 use Rattle.std.proofs.ByRecursion.{All-get_or, All-map}
 use Rattle.rows.specs.Row.{HasRow, at, picked}
 use Rattle.rows.specs.declared.row.Row.{Row}
@@ -9,7 +9,7 @@ use Rattle.lptype.specs.Meaning.{Meaning, Within}
 use Rattle.lptype.specs.Places.{Fine, FineAt, AllFine}
 use Rattle.lptype.proofs.Inside.{all_within, within_map, within_admitted}
 
-pub all_unmap : {X Y : Type 0} (P : X → Type 0) (f : Y → X) (ys : List Y) → All P (map f ys) → All (λ y. P (f y)) ys
+pub all_unmap : {X Y : Type 0} (P : X → Type 0) (f : Y → X) (ys : List Y) → AllByRecursion P (map f ys) → AllByRecursion (λ y. P (f y)) ys
 all_unmap P f [] h = tt
 all_unmap P f (y ∷ ys) h = (h.0, all_unmap P f ys h.1)
 

@@ -1,6 +1,6 @@
 -- What an LP-type problem means: rivals, their sizes, and the value of a set of constraints.
 use Rattle.std.specs.Prelude.{◌≡◌, ℕ, Bool, true, false, ◌⊎◌, List, [], ◌∷◌, ◌++◌, ℤ}
-use Rattle.std.specs.List.{AllByRecursion as All}
+use Rattle.std.specs.List.{AllByRecursion}
 use Rattle.rows.specs.declared.row.Constraint.{Constraint}
 
 -- a value: a size, or top, which is above every size
@@ -53,7 +53,7 @@ abbrev pub Within : {X : Type 0} → List X → List X → Type 0
 Within {X} F G = (x : X) → In x F → In x G
 
 abbrev pub Admitted : Meaning → List Constraint → Type 0
-Admitted m F = All (λ x. m.admitted x.a x.b x.c ≡ true) F
+Admitted m F = AllByRecursion (λ x. m.admitted x.a x.b x.c ≡ true) F
 
 -- adding h raises the value of F
 abbrev pub Raises : Meaning → List Constraint → Constraint → Type 0

@@ -1,6 +1,6 @@
 -- What the search for a basis looks for among the sublists of a pool of positions.
 use Rattle.std.specs.Prelude.{◌≡◌, ℕ, ◌^◌, ◌<◌, List, ◌∷◌, length, ℤ, Option, Result, MatchOption}
-use Rattle.std.specs.List.{AllByRecursion as All}
+use Rattle.std.specs.List.{AllByRecursion}
 use Rattle.rows.specs.Judged.{Gives, Unless}
 use Rattle.rows.specs.List.{positions}
 use Rattle.rows.specs.Pool.{chosen, Listable}
@@ -25,7 +25,7 @@ pub record QuietAt (m : Meaning) (rows : List Row) (ps : List ℤ) (p : ℤ) : T
 
 -- ps stands, and no row of the pool raises it
 abbrev pub Qualifies : Meaning → List Row → List ℤ → List ℤ → Type 0
-Qualifies m rows ps pool = StandsAt m rows ps × All (QuietAt m rows ps) pool
+Qualifies m rows ps pool = StandsAt m rows ps × AllByRecursion (QuietAt m rows ps) pool
 
 -- the mask chooses a list of positions that qualifies
 pub record Serves (m : Meaning) (rows : List Row) (pool : List ℤ) (mask : ℕ) : Type 0 where

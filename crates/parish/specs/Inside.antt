@@ -1,6 +1,6 @@
 -- What a parish layer asks of the problem below.
 use Rattle.std.specs.Prelude.{◌≡◌, ℕ, Bool, List, ◌∷◌, ℤ, Decides, Option, Result}
-use Rattle.std.specs.List.{AllByRecursion as All}
+use Rattle.std.specs.List.{AllByRecursion}
 use Rattle.rows.specs.Judged.{Gives, Unless}
 use Rattle.rows.specs.Row.{HasRow, at, picked}
 use Rattle.rows.specs.declared.row.Row.{Row}
@@ -15,7 +15,7 @@ OfParish g rows p = HasRow rows p × ((at rows p).parish ≡ g)
 
 -- every position has a row of parish g
 abbrev pub AllOfParish : ℕ → List Row → List ℤ → Type 0
-AllOfParish g rows ps = All (OfParish g rows) ps
+AllOfParish g rows ps = AllByRecursion (OfParish g rows) ps
 
 -- the rows stand below, and all are of the parish
 abbrev pub Inside : Meaning → ℕ → List Row → List ℤ → Type 0

@@ -1,7 +1,7 @@
 -- The constraints of one parish in a list.
 use Rattle.std.specs.Prelude.{◌≡◌, ℕ, true, List, [], ◌∷◌, ◌++◌, ◌==◌, ◌≢◌, nat_eq, refl}
 use Rattle.std.proofs.Common.{sym, ap, subst, ◌∙◌, inl, inr}
-use Rattle.std.specs.List.{AllByRecursion as All}
+use Rattle.std.specs.List.{AllByRecursion}
 use Rattle.std.proofs.lemmas.List.Elements.{filter-append}
 use Rattle.std.proofs.ByRecursion.{All-weaker, kept_by_passes}
 use Rattle.std.proofs.lemmas.Bool.{cond-true, cond-false, cond_both, eq-eqb, ne_eqb, eqb-true}
@@ -12,7 +12,7 @@ use Rattle.parish.specs.Layer.{of_parish}
 module _ (g : ℕ) where
   -- every constraint is of parish g
   abbrev pub AllOf : List Constraint → Type 0
-  AllOf F = All (λ x. x.parish ≡ g) F
+  AllOf F = AllByRecursion (λ x. x.parish ≡ g) F
 
   pub here : (x : Constraint) (F : List Constraint) → x.parish ≡ g → of_parish g (x ∷ F) ≡ x ∷ of_parish g F
   here x F e = cond-true (x.parish == g) (x ∷ of_parish g F) (of_parish g F) (eq-eqb x.parish g e)

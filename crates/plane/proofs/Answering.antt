@@ -1,6 +1,6 @@
 -- What the questions answer, from what the code finds: sound positions, whether the rows stand, and their least point.
 use Rattle.std.proofs.Common.{◌≡◌, ◌<◌, true, false, not, ◌&&◌, List, length, ℤ, Some, None, Decides, sym, refl, subst, arith}
-use Rattle.std.specs.List.{AllByRecursion as All}
+use Rattle.std.specs.List.{AllByRecursion}
 use Rattle.std.proofs.ByRecursion.{All-weaker}
 use Rattle.std.proofs.lemmas.List.{length-map}
 use Rattle.std.proofs.lemmas.Bool.{both_ways, and_parts}
@@ -37,14 +37,14 @@ bounded g e =
     let r = and_parts (within 1000 g.a) (within 1000 g.b) q.0 in
     record { a_small = r.0; b_small = r.1; c_small = q.1 }
 
-pub all_bounded : (p q : ℤ) (F : List Constraint) → Admitted (plane p q) F → All Bounded F
+pub all_bounded : (p q : ℤ) (F : List Constraint) → Admitted (plane p q) F → AllByRecursion Bounded F
 all_bounded p q F a = All-weaker (Fine (plane p q)) Bounded bounded F a
 
 -- rows that stand
 
 module _ (p q : ℤ) (rows : List Row) (ps : List ℤ) (a : Admitted (plane p q) (picked rows ps)) where
-  pub few_bounded : (few : Few) → rows_of few ≡ picked rows ps → All Bounded (rows_of few)
-  few_bounded few e = subst (All Bounded) (sym e) (all_bounded p q (picked rows ps) a)
+  pub few_bounded : (few : Few) → rows_of few ≡ picked rows ps → AllByRecursion Bounded (rows_of few)
+  few_bounded few e = subst (AllByRecursion Bounded) (sym e) (all_bounded p q (picked rows ps) a)
 
   few_decides : (few : Few) → rows_of few ≡ picked rows ps → Decides (standing (cost_x_y p q) (rows_of few)) (Stands (plane p q) (picked rows ps))
   few_decides few e = subst (λ F. Decides (standing (cost_x_y p q) F) (Stands (plane p q) (picked rows ps))) (sym e) (standing_decides (cost_x_y p q) (cost_x_y_separates p q) (picked rows ps) a)

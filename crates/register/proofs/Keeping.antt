@@ -15,7 +15,7 @@ use Rattle.checking.specs.Filed.{OnOpen, AllBelow, occurs, Covers}
 use Rattle.checking.proofs.Opening.{opened}
 use Rattle.walk.specs.Walks.{WalkEnds, WalkReady}
 use Rattle.walk.specs.Shuffling.{shuffled}
-use Rattle.std.specs.List.{AllByRecursion as All}
+use Rattle.std.specs.List.{AllByRecursion}
 use Rattle.walk.proofs.Walks.{front_below}
 use Rattle.walk.proofs.Shuffles.{shuffled_permutes, permuted_below, permuted_covers}
 use Rattle.register.specs.State.{State, new_state, Good, Became, EnterAnswer, entered, StrikeAnswer, StruckAt, RestoreAnswer, restored}
@@ -94,7 +94,7 @@ pub ready : (m : Meaning) (s : State) → Kept m s → WalkReady m s.rows s.orde
 ready m s k = record {
   admitted = k.good.admitted;
   few = k.few;
-  below = subst (All (λ i. i < length s.rows)) (take_all (length s.rows) s.order (omega (arith, k.sized))) (front_below s.order (length s.rows) k.below);
+  below = subst (AllByRecursion (λ i. i < length s.rows)) (take_all (length s.rows) s.order (omega (arith, k.sized))) (front_below s.order (length s.rows) k.below);
   filed = k.filed;
   stands = k.good.stands;
 }

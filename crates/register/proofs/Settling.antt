@@ -1,6 +1,6 @@
 -- What a walk asks of a register.
 use Rattle.std.proofs.Common.{◌≡◌, ℕ, ◌<◌, ◌≤◌, List, map, length, take, ℤ, sym, subst, arith, length-take}
-use Rattle.std.specs.List.{AllByRecursion as All}
+use Rattle.std.specs.List.{AllByRecursion}
 use Rattle.rows.specs.Row.{picked}
 use Rattle.rows.specs.declared.row.Row.{Row}
 use Rattle.lptype.specs.Meaning.{Meaning, Admitted, Stands}
@@ -17,7 +17,7 @@ ready_first m table order u ps size room a s f b =
     record {
       admitted = a;
       few = omega (arith, n);
-      below = subst (λ (n : ℕ). All (λ k. k < n) (take u order)) (sym n) (front_below order u b);
+      below = subst (λ (n : ℕ). AllByRecursion (λ k. k < n) (take u order)) (sym n) (front_below order u b);
       filed = f;
       stands = s;
     }

@@ -1,6 +1,6 @@
 -- Rising lists: those that agree as far as a place rise alike, and each number lies below all that follow it.
 use Rattle.std.proofs.Common.{◌≡◌, ℕ, zero, suc, ◌+◌, ◌<◌, ◌≤◌, List, [], ◌∷◌, length, get_or, take, drop, ℤ, pos, ◌<ℤ◌, sym, ap, ◌∙◌, subst, add-one, arith, get_or-take}
-use Rattle.std.specs.List.{AllByRecursion as All}
+use Rattle.std.specs.List.{AllByRecursion}
 use Rattle.std.proofs.ByRecursion.{All-weaker}
 use Rattle.std.proofs.lemmas.List.{length-take}
 use Rattle.std.proofs.lemmas.Int.{ints}
@@ -34,9 +34,9 @@ positions_few p = omega (arith, length-take p.len p.at, p.few)
 -- each number is below all that follow it
 abbrev pub Ascending : List ℤ → Type 0
 Ascending [] = Unit {0}
-Ascending (x ∷ xs) = All (λ y. x <ℤ y) xs × Ascending xs
+Ascending (x ∷ xs) = AllByRecursion (λ y. x <ℤ y) xs × Ascending xs
 
-pub below_all : (x y : ℤ) (ys : List ℤ) → x <ℤ y → All (λ z. y <ℤ z) ys → All (λ z. x <ℤ z) ys
+pub below_all : (x y : ℤ) (ys : List ℤ) → x <ℤ y → AllByRecursion (λ z. y <ℤ z) ys → AllByRecursion (λ z. x <ℤ z) ys
 below_all x y ys l a = All-weaker (λ z. y <ℤ z) (λ z. x <ℤ z) (λ z k. omega (arith, ints)) ys a
 
 rising_rest : (x : ℤ) (xs : List ℤ) → Rising (x ∷ xs) (length (x ∷ xs)) → Rising xs (length xs)

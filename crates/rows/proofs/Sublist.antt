@@ -1,6 +1,6 @@
 -- Sublists: of themselves, of one another, how long they are.
 use Rattle.std.proofs.Common.{◌≤◌, List, [], ◌∷◌, length, arith}
-use Rattle.std.specs.List.{AllByRecursion as All}
+use Rattle.std.specs.List.{AllByRecursion}
 use Rattle.rows.specs.Sublist.{Sublist, nothing, leave, keep}
 
 module _ {X : Type 0} where
@@ -19,7 +19,7 @@ module _ {X : Type 0} where
   sublist_length (leave s) = omega (arith, sublist_length s)
   sublist_length (keep s) = omega (arith, sublist_length s)
 
-  pub sublist_all : (P : X → Type 0) {xs ys : List X} → Sublist xs ys → All P ys → All P xs
+  pub sublist_all : (P : X → Type 0) {xs ys : List X} → Sublist xs ys → AllByRecursion P ys → AllByRecursion P xs
   sublist_all P nothing a = tt
   sublist_all P (leave s) a = sublist_all P s a.1
   sublist_all P (keep s) a = (a.0, sublist_all P s a.1)

@@ -1,6 +1,6 @@
 -- Rows by position.
 use Rattle.std.specs.Prelude.{◌≡◌, ℕ, ◌<◌, ◌≤◌, List, map, length, ℤ, pos, ◌≤ℤ◌, slice_index_or, unsigned_abs}
-use Rattle.std.specs.List.{AllByRecursion as All}
+use Rattle.std.specs.List.{AllByRecursion}
 use Rattle.rows.specs.declared.row.Constraint.{Constraint}
 use Rattle.rows.specs.declared.row.Row.{Row}
 use Rattle.rows.specs.declared.row.Mark.TheVariants.{Open, Struck}
@@ -25,11 +25,11 @@ HasRow rows p = (pos 0 ≤ℤ p) × (unsigned_abs p < length rows)
 
 -- every position has a row
 abbrev pub Named : List Row → List ℤ → Type 0
-Named rows ps = All (HasRow rows) ps
+Named rows ps = AllByRecursion (HasRow rows) ps
 
 -- every position has an open row
 abbrev pub AllOpen : List Row → List ℤ → Type 0
-AllOpen rows ps = All (λ p. (row_at rows p).mark ≡ Open) ps
+AllOpen rows ps = AllByRecursion (λ p. (row_at rows p).mark ≡ Open) ps
 
 -- the constraint at a position, and those at several
 abbrev pub at : List Row → ℤ → Constraint

@@ -1,6 +1,6 @@
 -- Every walk keeps a basis that names open rows and stands, goes on only so long, and ends at a basis of the open rows.
 use Rattle.std.proofs.Common.{◌≡◌, ℕ, suc, ◌+◌, ◌-◌, ◌*◌, ◌<◌, ◌≤◌, true, eqb, List, [], ◌∷◌, length, get_or, take, ℤ, pos, Ok, sym, refl, ◌∙◌, subst, ⊎_elim, arith, length-take, get_or-take, below_more}
-use Rattle.std.specs.List.{AllByRecursion as All}
+use Rattle.std.specs.List.{AllByRecursion}
 use Rattle.std.proofs.ByRecursion.{All-get_or, All-from_get_or}
 use Rattle.std.proofs.lemmas.List.{take-take}
 use Rattle.std.proofs.lemmas.Int.{ints}
@@ -48,7 +48,7 @@ open_on rows ps n o k l =
 
 -- the part of a longer order that is in use
 module _ (order : List ℕ) (n : ℕ) where
-  pub front_below : AllBelow order n → All (λ k. k < n) (take n order)
+  pub front_below : AllBelow order n → AllByRecursion (λ k. k < n) (take n order)
   front_below b = All-from_get_or (λ k. k < n) (take n order) 0 (λ i l.
       let h : i < n = omega (arith, length-take n order) in
       subst (λ (k : ℕ). k < n) (sym (get_or-take n order i 0 h)) (b i h))

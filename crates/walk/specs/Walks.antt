@@ -1,6 +1,6 @@
 -- The walk as a relation between the place in the order, the basis, and the tests and exchanges so far.
 use Rattle.std.specs.Prelude.{◌≡◌, ℕ, ◌+◌, ◌-◌, ◌^◌, ◌<◌, ◌≤◌, min, List, map, length, ℤ, pos, slice_index}
-use Rattle.std.specs.List.{AllByRecursion as All}
+use Rattle.std.specs.List.{AllByRecursion}
 use Rattle.rows.specs.Row.{Named, AllOpen, row_at, at, picked}
 use Rattle.rows.specs.declared.row.Constraint.{Constraint}
 use Rattle.rows.specs.declared.row.Row.{Row}
@@ -47,7 +47,7 @@ visits (exchange w l e r c) = visits w + 1
 pub record WalkReady (m : Meaning) (rows : List Row) (order : List ℕ) (start : List ℤ) : Type 0 where
   pub admitted : Admitted m (map (λ row. row.constraint) rows)
   pub few : length rows ≤ 256
-  pub below : All (λ k. k < length rows) order
+  pub below : AllByRecursion (λ k. k < length rows) order
   pub filed : OnOpen rows start
   pub stands : Stands m (picked rows start)
 

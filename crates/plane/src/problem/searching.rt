@@ -1,5 +1,5 @@
 ghost use Rattle.std.specs.Prelude.{◌≡◌};
-ghost use Rattle.std.specs.List.{AllByRecursion as All};
+ghost use Rattle.std.specs.List.{AllByRecursion};
 ghost use Rattle.lptype.specs.Meaning.{top};
 ghost use Rattle.limits.specs.Crossings.{crossing, crossings_with, crossings};
 ghost use Rattle.limits.specs.Forms.{no_more};
@@ -108,7 +108,7 @@ impl Plane {
         g: Constraint,
         others: &[Constraint],
     ) -> Option<Vertex>
-        requires { (Bounded g) × (All Bounded others.now) }
+        requires { (Bounded g) × (AllByRecursion Bounded others.now) }
         ensures { found result ≡ best (forms self) limits.now (found before) (crossings_with g others.now) }
     {
         let mut least = before;
@@ -120,7 +120,7 @@ impl Plane {
 
     // The least crossing of two limits that keeps them all.
     fn search(self, limits: &[Constraint]) -> Option<Vertex>
-        requires { All Bounded limits.now }
+        requires { AllByRecursion Bounded limits.now }
         ensures { found result ≡ best (forms self) limits.now top (crossings limits.now) }
     {
         let mut least = None;
@@ -132,7 +132,7 @@ impl Plane {
 
     // The least point of the square that keeps the rows.
     fn least(self, few: Few) -> Option<Vertex>
-        requires { All Bounded (rows_of few) }
+        requires { AllByRecursion Bounded (rows_of few) }
         ensures { found result ≡ least_crossing (forms self) (rows_of few) }
     {
         match few {
@@ -145,7 +145,7 @@ impl Plane {
 
     // The least point in lowest terms, or none.
     pub(crate) fn cheapest(self, few: Few) -> PlaneAnswer
-        requires { All Bounded (rows_of few) }
+        requires { AllByRecursion Bounded (rows_of few) }
         ensures { Tells (least_crossing (forms self) (rows_of few)) result }
     {
         match self.least(few) {
@@ -159,7 +159,7 @@ impl Plane {
 
     // Whether the least point of the rows misses one more row.
     pub(crate) fn missed(self, few: Few, row: Constraint) -> bool
-        requires { All Bounded (rows_of few) }
+        requires { AllByRecursion Bounded (rows_of few) }
         ensures { result ≡ misses (least_crossing (forms self) (rows_of few)) row }
     {
         match self.least(few) {
@@ -170,7 +170,7 @@ impl Plane {
 
     // Whether each of the rows is missed by the least point of the others.
     pub(crate) fn all_missed(self, few: Few) -> bool
-        requires { All Bounded (rows_of few) }
+        requires { AllByRecursion Bounded (rows_of few) }
         ensures { result ≡ standing (forms self) (rows_of few) }
     {
         match few {

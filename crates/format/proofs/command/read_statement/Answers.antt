@@ -1,5 +1,5 @@
 use Rattle.std.proofs.Common.{◌≡◌, ◌≤◌, true, sym, subst}
-use Rattle.std.specs.List.{AllByRecursion as All}
+use Rattle.std.specs.List.{AllByRecursion}
 use Rattle.fields.specs.Fields.{left}
 use Rattle.fields.specs.Numeral.{IsNumber}
 use Rattle.format.specs.Numbers.{sized, numbers_in}
@@ -30,7 +30,7 @@ returns g c =
         (
           (w, word.0, count),
           (
-            subst (All IsNumber) first.1 read.0,
+            subst (AllByRecursion IsNumber) first.1 read.0,
             (whole, subst (λ n. counts w n ≡ true) (count_written spelling w line zs whole) count),
           ),
         ),
