@@ -1,5 +1,5 @@
 -- Whether a position has an open row, as a test and as a fact.
-use Rattle.std.proofs.Common.{◌≡◌, true, ◌&&◌, ltb, List, length, ℤ, pos, nat_abs, ◌≤ℤ◌, refl, ap, arith}
+use Rattle.std.proofs.Common.{◌≡◌, true, ◌&&◌, ltb, List, length, ℤ, pos, nat_abs, refl, ap, arith}
 use lib.Signed.{le_z}
 use Rattle.std.proofs.lemmas.Int.{ints}
 use Rattle.std.proofs.lemmas.Bool.{and_parts, and_from, ltb-true, lt-ltb}

@@ -1,16 +1,16 @@
 -- Check passes exactly the bases of the open rows.
-use Rattle.std.proofs.Common.{◌≡◌, ℕ, zero, suc, ◌<◌, true, List, [], ◌∷◌, map, length, get_or, ℤ, nat_abs, is_ok, Ok, Err, Decides, Result, sym, refl, subst, inl, inr, arith}
+use Rattle.std.proofs.Common.{◌≡◌, ℕ, zero, suc, ◌<◌, List, [], ◌∷◌, map, length, get_or, ℤ, nat_abs, is_ok, Ok, Err, Decides, Result, sym, refl, subst, inl, inr, arith}
 use Rattle.std.proofs.lemmas.Bool.{false≢true}
-use Rattle.rows.specs.Row.{HasRow, Named, AllOpen, at, picked, row_at, no_row}
+use Rattle.rows.specs.Row.{Named, AllOpen, at, picked, no_row}
 use Rattle.rows.specs.declared.row.Constraint.{Constraint}
 use Rattle.rows.specs.declared.row.Row.{Row}
 use Rattle.rows.specs.declared.row.Mark.{Mark}
 use Rattle.rows.specs.declared.row.Mark.TheVariants.{Open, Struck}
 use Rattle.rows.specs.declared.refusal.Refusal.{Refusal}
-use Rattle.lptype.specs.Meaning.{Meaning, Admitted, In, Within, Raises, Quiet, Stands}
+use Rattle.lptype.specs.Meaning.{Meaning, Admitted, In, Within, Quiet, Stands}
 use Rattle.lptype.specs.Laws.{Laws}
 use Rattle.lptype.proofs.Order.{down, not_both}
-use Rattle.lptype.proofs.Inside.{within_admitted, all_in}
+use Rattle.lptype.proofs.Inside.{within_admitted}
 use Rattle.lptype.proofs.Derived.{whole}
 use Rattle.checking.specs.Checking.{QuietBefore, FirstViolating, Searched, CheckAnswer, BasisOfOpen, open_rows, kept_if}
 

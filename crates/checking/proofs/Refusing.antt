@@ -1,14 +1,13 @@
 -- A question about rows that are all filed and admitted is refused on no account but its own.
-use Rattle.std.proofs.Common.{◌≡◌, ℕ, ◌<◌, ◌≤◌, true, List, [], ◌∷◌, map, length, get_or, ℤ, pos, nat_abs, Err, Option, sym, ap, subst, inl, inr, ⊎_elim, arith}
-use Rattle.std.proofs.ByRecursion.{All-get_or, All-map}
-use Rattle.rows.specs.Row.{HasRow, Named, at, picked, row_at, no_row}
+use Rattle.std.proofs.Common.{List, [], ◌∷◌, map, ℤ, nat_abs, Err, Option, inl, inr}
+use Rattle.std.proofs.ByRecursion.{All-get_or}
+use Rattle.rows.specs.Row.{HasRow, Named, at, picked, no_row}
 use Rattle.rows.specs.declared.row.Row.{Row}
 use Rattle.rows.specs.declared.refusal.Refusal.{Refusal}
 use Rattle.lptype.specs.Meaning.{Meaning, Admitted, Stands}
 use Rattle.lptype.specs.Places.{Fine}
 use Rattle.lptype.specs.Questions.{StandsAnswer, ViolatesAnswer, AnswerAnswer}
 use Rattle.lptype.proofs.Naming.{all_unmap}
-use Rattle.checking.specs.Checking.{Filed}
 
 module _ (m : Meaning) (rows : List Row) (a : Admitted m (map (λ row. row.constraint) rows)) where
   admitted_at : (p : ℤ) → HasRow rows p → Fine m (at rows p)

@@ -10,7 +10,7 @@ use Rattle.algebra.proofs.Ring.{num, ◌⊖◌, ◌⊗◌, ◌≐◌, ring1, rin
 use Rattle.algebra.proofs.Order.{lin, lt_by, antisym, mul_pos, squares_zero}
 use Rattle.algebra.proofs.Fractions.{fraction_antisym, fraction_trans, fraction_same_le}
 use Rattle.circles.specs.Angles.{squares, apart, corner, turn, Differ, Acute}
-use Rattle.circles.specs.Discs.{Circle, DiscRival, empty_disc, disc, KeepsPoint, over, minus_one, disc_size, pair_size, circle_size, greatest, discs}
+use Rattle.circles.specs.Discs.{Circle, DiscRival, empty_disc, disc, KeepsPoint, minus_one, disc_size, pair_size, circle_size, greatest, discs}
 use Rattle.circles.proofs.Quoted.{squaresE, apartE, cornerE, turnE, sidesE}
 use Rattle.circles.proofs.Sizes.{same_trans, less_by, over_less}
 use Rattle.circles.proofs.Optimal.{Optimal, sq_sum, single, single_best, pair, pair_first, pair_second, pair_best, sides, side_pos, turned, turn_pos}

@@ -8,7 +8,6 @@ use Rattle.rows.specs.declared.refusal.Refusal.TheVariants.{NotStanding}
 use Rattle.lptype.specs.Meaning.{Stands}
 use Rattle.lptype.specs.Questions.{SoundAnswer, StandsAnswer, ViolatesAnswer, AnswerAnswer}
 use Rattle.circles.specs.Discs.{discs}
-use Rattle.disc.specs.Vectors.{Near}
 use Rattle.disc.specs.Centres.{Reads}
 use Rattle.disc.specs.Figures.{figure_of, AllNear, figure_stands, figure_misses, CentreOf}
 use Rattle.disc.specs.declared.answer.DiscAnswer.{DiscAnswer}

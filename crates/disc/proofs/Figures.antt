@@ -1,5 +1,5 @@
 -- The points of a list by its length; when they stand, what their disc misses, and the centre as an answer.
-use Rattle.std.proofs.Common.{◌≡◌, ℕ, ◌<◌, true, false, ◌&&◌, eqb, List, [], ◌∷◌, length, get_or, ℤ, pos, negsuc, ◌-ℤ◌, ◌*ℤ◌, nat_abs, Some, Decides, Option, sym, refl, ap, ◌∙◌, subst, arith}
+use Rattle.std.proofs.Common.{◌≡◌, ℕ, ◌<◌, true, ◌&&◌, eqb, List, [], ◌∷◌, length, get_or, ℤ, pos, negsuc, ◌-ℤ◌, ◌*ℤ◌, nat_abs, Some, Decides, Option, sym, refl, ap, ◌∙◌, subst, arith}
 use lib.Signed.{le_z}
 use Rattle.std.proofs.lemmas.Bool.{and_parts, false≢true}
 use Rattle.rows.specs.Row.{at, picked}
@@ -13,7 +13,6 @@ use Rattle.algebra.proofs.Order.{lin, eq_by, zero_diff, mul_zero, le_z_out}
 use Rattle.algebra.proofs.Computed.{small_by}
 use Rattle.points.specs.Point.{near}
 use Rattle.circles.specs.Angles.{turn, centre_x, centre_y}
-use Rattle.circles.specs.Tests.{acute}
 use Rattle.circles.specs.Discs.{Circle, DiscRival, empty_disc, disc, greatest, discs}
 use Rattle.circles.proofs.Optimal.{Optimal, single, single_best, pair, turn_pos, triangle, triangle_best}
 use Rattle.circles.proofs.Standing.{optimal_value, two_best, violates_none, stands_none, stands_one, stands_more}

@@ -1,5 +1,5 @@
 -- A place with d above 0, and its lowest terms.
-use Rattle.std.proofs.Common.{◌≡◌, Bool, true, false, cond, ℤ, pos, ◌*ℤ◌, neg_ℤ, ◌≤ℤ◌, ◌<ℤ◌, sym, refl, ap, ◌∙◌, arith}
+use Rattle.std.proofs.Common.{◌≡◌, Bool, true, false, cond, ℤ, pos, ◌*ℤ◌, neg_ℤ, ◌≤ℤ◌, ◌<ℤ◌, refl, ap, ◌∙◌, arith}
 use lib.Signed.{lt_z}
 use Rattle.algebra.proofs.Ring.{◌⊗◌, ⊝, ◌≐◌, ring2, ring3}
 use Rattle.algebra.proofs.Order.{lin, cancel_eq, lt_z_out, lt_z_false}

@@ -4,7 +4,7 @@ use Rattle.std.proofs.lemmas.List.{drop-drop}
 use Rattle.std.proofs.lemmas.List.Sums.{sum_by-cons}
 use Rattle.std.proofs.lemmas.Bool.{cond_both, eqb-true, eqb-false, eq-eqb, ne_eqb, le-leb, lt-leb, cases_lt, cases_Bool, cond-true, cond-false}
 use Rattle.fields.specs.Parts.{led, parts, rejoined, PartsOf}
-use Rattle.fields.specs.Fields.{fields, fields_from}
+use Rattle.fields.specs.Fields.{fields_from}
 
 -- there is always a part
 pub some_part : (sep : ℕ) (bs : List ℕ) → (p : List ℕ) × (ps : List (List ℕ)) × (parts sep bs ≡ p ∷ ps)

@@ -31,8 +31,8 @@ abbrev pub Counted : {W : Type 0} → (W → List ℕ) → (W → ℕ → Bool) 
 Counted {W} spelling counts line = (w : W) × (first_field line ≡ spelling w) × (counts w (length (fields line)) ≡ true)
 
 -- a line of one of the words: refused for the first of its faults, else K says the rest
-abbrev pub LineJudged : {W T : Type 0} → (W → List ℕ) → (W → ℕ → Bool) → (Result T Refusal → Type 0) → List ℕ → Result T Refusal → Type 0
-LineJudged spelling counts K line =
+abbrev pub AfterFaults : {W T : Type 0} → (W → List ℕ) → (W → ℕ → Bool) → (Result T Refusal → Type 0) → List ℕ → Result T Refusal → Type 0
+AfterFaults spelling counts K line =
     Unless LongLine (length line ≤ 80)
     (Unless UnknownWord (Listed spelling (first_field line))
     (Unless FieldCount (Counted spelling counts line)
@@ -41,7 +41,7 @@ LineJudged spelling counts K line =
 
 -- a line of one of the words: refused for the first of its faults, else P holds of what it gives
 abbrev pub LineRead : {W T : Type 0} → (W → List ℕ) → (W → ℕ → Bool) → (T → Type 0) → List ℕ → Result T Refusal → Type 0
-LineRead spelling counts P line = LineJudged spelling counts (Gives P) line
+LineRead spelling counts P line = AfterFaults spelling counts (Gives P) line
 
 -- the fields of a line with a word and numbers
 abbrev pub written : {W : Type 0} → (W → List ℕ) → W → List ℤ → List (List ℕ)
@@ -90,4 +90,4 @@ HeaderRead line = LineRead header_spelling header_counts (λ h. fields line ≡ 
 
 -- a later line: the command that is written so, unless its seed is out of range
 abbrev pub CommandRead : List ℕ → Result Command Refusal → Type 0
-CommandRead line = LineJudged command_spelling command_counts (CommandWritten (fields line)) line
+CommandRead line = AfterFaults command_spelling command_counts (CommandWritten (fields line)) line

@@ -1,5 +1,5 @@
 -- Numbers of a file that become a constraint or a list, and those that do not.
-use Rattle.std.proofs.Common.{◌≡◌, ◌<◌, ◌≤◌, false, List, length, ℤ, pos, nat_abs, ◌≤ℤ◌, is_ok, Ok, Err, Decides, Result, sym, refl, subst, inl, inr, arith}
+use Rattle.std.proofs.Common.{◌≤◌, false, List, length, ℤ, pos, ◌≤ℤ◌, is_ok, Ok, Err, Decides, Result, inl, inr, arith}
 use Rattle.std.proofs.lemmas.Int.{ints}
 use Rattle.std.proofs.lemmas.Bool.{false≢true}
 use Rattle.rows.specs.Rising.{Rising}

@@ -1,5 +1,5 @@
 -- What a command of a file does to a register.
-use Rattle.std.specs.Prelude.{◌≡◌, ℕ, ◌<◌, ◌≤◌, Bool, true, cond, ◌&&◌, List, length, ℤ, pos, negsuc, ◌≤ℤ◌, is_ok, Ok, Err, Decides, Result, int_le, unsigned_abs}
+use Rattle.std.specs.Prelude.{◌≡◌, ℕ, ◌<◌, ◌≤◌, true, cond, ◌&&◌, List, length, ℤ, pos, negsuc, ◌≤ℤ◌, is_ok, Ok, Err, Decides, Result, int_le, unsigned_abs}
 use Rattle.rows.specs.Judged.{Gives, Unless}
 use Rattle.rows.specs.Rising.{Rising}
 use Rattle.rows.specs.declared.row.Constraint.{Constraint}

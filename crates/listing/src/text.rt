@@ -47,9 +47,8 @@ fn listed(heap: Global, list: &[i64]) -> Result<String, AllocError>
 {
     let mut text = String::new(heap);
     for p in list {
-        if let Err(_) = write!(text, ",{p}") {
-            return Err(AllocError);
-        }
+        let position = format!(in heap; ",{p}")?;
+        text.push_str(position.as_str())?;
     }
     Ok(text)
 }

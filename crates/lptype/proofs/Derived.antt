@@ -1,12 +1,12 @@
 -- All six laws from what a problem owes; and a sublist without violators has the whole value.
-use Rattle.std.proofs.Common.{◌≡◌, ◌≤◌, true, ◌⊎◌, ◌↔◌, List, ◌∷◌, length, sym, refl, subst, inl, inr, ⊎_elim}
+use Rattle.std.proofs.Common.{◌≤◌, ◌↔◌, List, ◌∷◌, length, sym, refl, subst, inl, inr, ⊎_elim}
 use Rattle.rows.specs.declared.row.Constraint.{Constraint}
-use Rattle.lptype.specs.Meaning.{Meaning, finite, top, Le, Within, In, Admitted, Raises, Quiet, SameValue}
+use Rattle.lptype.specs.Meaning.{Meaning, finite, Le, Within, In, Admitted, Raises, Quiet, SameValue}
 use Rattle.lptype.specs.Laws.{Laws, ByRivals}
 use Rattle.lptype.specs.Places.{Fine}
 use Rattle.lptype.proofs.Inside.{all_in, within_admitted}
 use Rattle.lptype.proofs.Order.{SizeOrder, values_ordered, up, down, less_le, le_less}
-use Rattle.lptype.proofs.Rivals.{BestOf, best, monotone, rows_only, local}
+use Rattle.lptype.proofs.Rivals.{best, monotone, rows_only, local}
 
 -- what a problem owes: the order of sizes, the small witness, the meaning by rivals and a dimension from one to eight
 pub record Owed (m : Meaning) : Type 0 where

@@ -1,5 +1,5 @@
 -- The order of sizes carried to values, and what follows from a total order of values.
-use Rattle.std.proofs.Common.{◌≡◌, true, false, ◌⊎◌, refl, inl, inr, ⊎_elim}
+use Rattle.std.proofs.Common.{◌≡◌, true, ◌⊎◌, refl, inl, inr, ⊎_elim}
 use Rattle.std.proofs.lemmas.Bool.{cases_Bool, both_ways, false≢true}
 use Rattle.lptype.specs.Meaning.{Meaning, Value, finite, top, at_most, Le, Less, Equal}
 use Rattle.lptype.specs.Laws.{TotalOrder}

@@ -1,9 +1,9 @@
 -- The value of a list by one best rival, and the laws that follow from the meaning by rivals.
-use Rattle.std.proofs.Common.{◌≡◌, true, false, ◌⊎◌, ◌↔◌, List, ◌∷◌, sym, refl, subst, inl, inr, ⊎_elim}
+use Rattle.std.proofs.Common.{◌≡◌, true, ◌⊎◌, ◌↔◌, List, ◌∷◌, sym, refl, subst, inl, inr, ⊎_elim}
 use Rattle.rows.specs.declared.row.Constraint.{Constraint}
-use Rattle.lptype.specs.Meaning.{Meaning, Value, finite, top, Le, Less, Equal, Within, Admitted, Raises, Quiet, KeepsAll, SameValue}
+use Rattle.lptype.specs.Meaning.{Meaning, Value, finite, top, Le, Equal, Within, Admitted, Raises, Quiet, KeepsAll, SameValue}
 use Rattle.lptype.specs.Laws.{TotalOrder, ByRivals}
-use Rattle.lptype.proofs.Order.{up, down, equal_sym, equal_trans, le_or_less, not_both}
+use Rattle.lptype.proofs.Order.{up, equal_sym, equal_trans, le_or_less, not_both}
 
 -- r keeps all of F, and its size is the value of F
 pub record BestOf (m : Meaning) (F : List Constraint) (r : m.Rival) : Type 0 where

@@ -1,5 +1,5 @@
 -- The six laws that every LP-type problem shows, for all finite lists of admitted constraints.
-use Rattle.std.specs.Prelude.{◌≡◌, ℕ, ◌≤◌, true, ◌⊎◌, List, [], ◌∷◌, length}
+use Rattle.std.specs.Prelude.{◌≡◌, ◌≤◌, ◌⊎◌, List, ◌∷◌, length}
 use Rattle.rows.specs.declared.row.Constraint.{Constraint}
 use Rattle.lptype.specs.Meaning.{Meaning, Value, finite, top, Le, Equal, Within, Admitted, Raises, Quiet, KeepsAll, SameValue}
 

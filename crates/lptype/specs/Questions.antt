@@ -1,5 +1,5 @@
 -- What a problem answers about rows, a list of positions and perhaps one more position.
-use Rattle.std.specs.Prelude.{◌≡◌, Bool, List, [], ◌∷◌, ℤ, Some, None, Decides, Option, Result, OnErr}
+use Rattle.std.specs.Prelude.{◌≡◌, Bool, List, ◌∷◌, ℤ, Some, None, Decides, Option, Result, OnErr}
 use Rattle.rows.specs.Judged.{Gives, Unless}
 use Rattle.rows.specs.Pool.{Listable}
 use Rattle.rows.specs.Row.{Named, at, picked}
@@ -7,7 +7,7 @@ use Rattle.rows.specs.declared.row.Row.{Row}
 use Rattle.rows.specs.declared.row.Constraint.{Constraint}
 use Rattle.rows.specs.declared.refusal.Refusal.{Refusal}
 use Rattle.rows.specs.declared.refusal.Refusal.TheVariants.{NoRow, NotAdmitted, NotStanding}
-use Rattle.lptype.specs.Meaning.{Meaning, finite, top, Equal, In, Within, Admitted, Raises, Quiet, KeepsAll, SameValue, Stands}
+use Rattle.lptype.specs.Meaning.{Meaning, finite, top, Equal, Within, Admitted, Raises, Quiet, KeepsAll, SameValue, Stands}
 
 -- every position named has a row, then every row named is admitted, then K
 abbrev pub Judged : {T : Type 0} → Meaning → List Row → List ℤ → (Result T Refusal → Type 0) → Result T Refusal → Type 0

@@ -1,21 +1,16 @@
 -- The law of a whole day.
-use Rattle.std.proofs.Common.{◌≡◌, ℕ, ◌<◌, ◌≤◌, true, false, List, [], ◌∷◌, ◌++◌, map, length, get_or, take, ℤ, pos, is_ok, Some, None, Ok, Err, Decides, Option, Result, sym, refl, ap, ◌∙◌, subst, inl, inr, ⊎_elim, append_assoc, arith, MatchResult}
+use Rattle.std.proofs.Common.{◌≡◌, ℕ, List, [], ◌∷◌, ◌++◌, map, length, take, ℤ, Some, None, Ok, Err, Result, sym, refl, ap, ◌∙◌, subst, append_assoc, arith}
 use Rattle.std.specs.List.{range_with_len}
 use Rattle.std.proofs.lemmas.List.{take_all, map_push}
-use Rattle.std.proofs.ByRecursion.{All-get_or}
 use Rattle.std.proofs.lemmas.List.Sorted.{length_permutation}
 use Rattle.std.proofs.lemmas.List.FromFn.{length-range_with_len}
-use Rattle.rows.specs.Row.{HasRow, row_at, picked}
+use Rattle.rows.specs.Row.{picked}
 use Rattle.rows.specs.declared.row.Constraint.{Constraint}
-use Rattle.rows.specs.declared.row.Row.{Row}
-use Rattle.rows.specs.declared.row.Mark.TheVariants.{Open}
 use Rattle.rows.specs.declared.refusal.Refusal.{Refusal}
-use Rattle.lptype.specs.Meaning.{Meaning, Value, finite, top, Equal, Le, In, KeepsAll, Quiet}
+use Rattle.lptype.specs.Meaning.{Meaning, Value, finite, top, Equal}
 use Rattle.lptype.specs.Laws.{Laws}
-use Rattle.lptype.specs.Questions.{Best}
-use Rattle.lptype.proofs.Order.{up, down, equal_trans}
-use Rattle.checking.specs.Checking.{CheckAnswer, BasisOfOpen, open_rows}
-use Rattle.checking.specs.Filed.{AllBelow, Covers}
+use Rattle.lptype.proofs.Order.{up, equal_trans}
+use Rattle.checking.specs.Checking.{BasisOfOpen, open_rows}
 use Rattle.checking.proofs.Passing.{check_passes, admitted_open, quiet_in_open}
 use Rattle.walk.specs.Walks.{WalkEnds}
 use Rattle.walk.specs.Shuffling.{shuffled, Permutes}
@@ -23,7 +18,7 @@ use Rattle.walk.proofs.Walks.{walk_law, open_on}
 use Rattle.walk.proofs.Shuffles.{shuffled_permutes, permuted_below, permuted_covers}
 use Rattle.register.specs.State.{State, Became, EnterAnswer, entered, StrikeAnswer, StruckAt, RestoreAnswer, restored}
 use Rattle.register.specs.Days.{Call, settling, checking, Phase, working, settled, state_in, with_order, with_basis, Makes, enters, strikes, restores, shuffles, settles, reopens, checks, Day, begins, goes_on}
-use Rattle.register.specs.DayLaw.{BestOfOpen, SettledBy, CheckLaw, AnswerLaw, Claims, DayLaw}
+use Rattle.register.specs.DayLaw.{SettledBy, CheckLaw, AnswerLaw, DayLaw}
 use Rattle.register.proofs.Keeping.{Kept, kept_new, kept_entered, kept_struck, kept_restored, ready}
 
 -- ---- the phases of a day

@@ -1,25 +1,18 @@
 -- What every phase of a day keeps: admitted rows, a basis on open rows that stands, and an order of all rows.
-use Rattle.std.proofs.Common.{◌≡◌, ℕ, ◌+◌, ◌<◌, ◌≤◌, true, ◌⊎◌, List, [], ◌∷◌, ◌++◌, map, length, get_or, take, ℤ, pos, nat_abs, Ok, Err, Result, sym, refl, ap, ◌∙◌, subst, inl, inr, ⊎_elim, arith, MatchResult}
+use Rattle.std.proofs.Common.{◌≡◌, ℕ, ◌+◌, ◌<◌, ◌≤◌, true, List, [], ◌∷◌, ◌++◌, length, get_or, ℤ, sym, refl, ap, ◌∙◌, subst, inl, inr, ⊎_elim, arith}
 use Rattle.std.proofs.lemmas.List.{length_push, get_or_push, get_or_append_left, take_all}
-use Rattle.std.proofs.ByRecursion.{All-get_or}
 use Rattle.std.proofs.lemmas.Bool.{cases_eq}
-use Rattle.rows.specs.Row.{HasRow, Named, AllOpen, row_at, open_row, picked}
+use Rattle.rows.specs.Row.{HasRow, open_row}
 use Rattle.rows.specs.declared.row.Constraint.{Constraint}
-use Rattle.rows.specs.declared.row.Row.{Row}
 use Rattle.rows.specs.declared.row.Mark.TheVariants.{Open, Struck}
-use Rattle.rows.specs.declared.refusal.Refusal.{Refusal}
-use Rattle.lptype.specs.Meaning.{Meaning, Stands}
-use Rattle.lptype.specs.Laws.{Laws}
+use Rattle.lptype.specs.Meaning.{Meaning}
 use Rattle.lptype.proofs.Standing.{stands_by}
 use Rattle.checking.specs.Filed.{OnOpen, AllBelow, occurs, Covers}
-use Rattle.checking.proofs.Opening.{opened}
-use Rattle.walk.specs.Walks.{WalkEnds, WalkReady}
-use Rattle.walk.specs.Shuffling.{shuffled}
+use Rattle.walk.specs.Walks.{WalkReady}
 use Rattle.std.specs.List.{AllByRecursion}
 use Rattle.walk.proofs.Walks.{front_below}
-use Rattle.walk.proofs.Shuffles.{shuffled_permutes, permuted_below, permuted_covers}
-use Rattle.register.specs.State.{State, new_state, Good, Became, EnterAnswer, entered, StrikeAnswer, StruckAt, RestoreAnswer, restored}
-use Rattle.register.specs.Days.{Call, Phase, Makes, Day, goes_on, Extends}
+use Rattle.register.specs.State.{State, new_state, Good, entered, StruckAt, restored}
+use Rattle.register.specs.Days.{Call, Phase, Makes, goes_on, Extends}
 use Rattle.register.proofs.Marking.{marked_length}
 use Rattle.register.proofs.Filing.{filed_entered, good_entered, occurs_push, filed_struck, good_struck, filed_restored, good_restored}
 

@@ -2,7 +2,6 @@
 -- Rows, order and basis are followed from the calls and the problem's admission alone; an exchange gives any basis that qualifies.
 use Rattle.std.specs.Prelude.{◌≡◌, ℕ, List, [], ◌∷◌, ◌++◌, length, ℤ, Result}
 use Rattle.rows.specs.declared.row.Constraint.{Constraint}
-use Rattle.rows.specs.declared.row.Row.{Row}
 use Rattle.rows.specs.declared.refusal.Refusal.{Refusal}
 use Rattle.lptype.specs.Meaning.{Meaning}
 use Rattle.walk.specs.Walks.{WalkEnds}

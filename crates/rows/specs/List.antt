@@ -1,5 +1,5 @@
 -- What a list handed in becomes.
-use Rattle.std.specs.Prelude.{◌≡◌, ℕ, ◌≤◌, List, length, take, ℤ, Result}
+use Rattle.std.specs.Prelude.{◌≡◌, ◌≤◌, List, length, take, ℤ, Result}
 use Rattle.rows.specs.Rising.{Rising}
 use Rattle.rows.specs.Judged.{Gives, Unless}
 use Rattle.rows.specs.declared.positions.Positions.{Positions}

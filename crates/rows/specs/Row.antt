@@ -3,7 +3,7 @@ use Rattle.std.specs.Prelude.{◌≡◌, ℕ, ◌<◌, ◌≤◌, List, map, len
 use Rattle.std.specs.List.{AllByRecursion}
 use Rattle.rows.specs.declared.row.Constraint.{Constraint}
 use Rattle.rows.specs.declared.row.Row.{Row}
-use Rattle.rows.specs.declared.row.Mark.TheVariants.{Open, Struck}
+use Rattle.rows.specs.declared.row.Mark.TheVariants.{Open}
 
 -- parishes are numbered from 1 to 16
 abbrev pub IsParish : ℕ → Type 0

@@ -1,3 +1,3 @@
 #!/bin/sh
 # A working register has no answer: one settles it first.
-exec "$(dirname "$0")/refused.sh" 'let _ = register.answer();' 'the method `answer` exists for `Working<Bounds>`, but its bounds are not met'
+exec "$(dirname "$0")/refused.sh" 'let _ = register.answer();' 'no method named `answer` found for type `Working<Bounds>`'

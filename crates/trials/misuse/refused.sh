@@ -5,13 +5,11 @@ set -eu
 root=$(cd "$(dirname "$0")/../../.." && pwd)
 copy=$(mktemp -d)
 trap 'rm -rf "$copy"' EXIT
-cp -r "$root/crates" "$root/crates.txt" "$copy"
-if [ -d "$root/target" ]; then cp -r "$root/target" "$copy"; fi
+tar -C "$root" --exclude=out -cf - crates crates.txt | tar -C "$copy" -xf -
 cd "$copy"
 echo 'mod misuse;' >> crates/trials/src/lib.rt
 cat > crates/trials/src/misuse.rt <<END
 use bounds::problem::Bounds;
-use bounds::problem::BoundsProblem;
 use register::working::Working;
 use rows::row::Constraint;
 
@@ -21,7 +19,7 @@ fn misuse(row: Constraint) {
     $1
 }
 END
-if rt dev trials > log 2>&1; then
+if (cd crates/trials && rt check) > log 2>&1; then
     echo "taken: $1"
     exit 1
 fi

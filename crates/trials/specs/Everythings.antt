@@ -1,6 +1,6 @@
 -- The laws of the problem whose one rival keeps every row, and which lists stand there: the empty ones.
-use Rattle.std.specs.Prelude.{◌≡◌, ℕ, suc, ◌<◌, true, false, List, [], ◌∷◌, length, ℤ, Decides, ◌==◌, refl}
-use Rattle.std.proofs.Common.{ap, subst, inl, inr, arith}
+use Rattle.std.specs.Prelude.{◌≡◌, ℕ, ◌<◌, Some, None, Option, List, [], ◌∷◌, length, ℤ, Decides, ◌==◌, refl}
+use Rattle.std.proofs.Common.{subst, inl, arith}
 use Rattle.std.proofs.lemmas.List.{length-map}
 use Rattle.std.proofs.lemmas.Bool.{eqb-true, eq-eqb, true≢false}
 use Rattle.rows.specs.Row.{at, picked}
@@ -46,3 +46,7 @@ module _ (rows : List Row) (ps : List ℤ) where
 
   pub decides_empty : Decides (length ps == 0) (Stands everything (picked rows ps))
   decides_empty = (λ e. stands_at (eqb-true (length ps) 0 e), λ s. eq-eqb (length ps) 0 (omega (arith, stands_empty (picked rows ps) s, length-map ps (at rows))))
+
+-- an answer that stands for none stands for no rival
+pub none_some : (a : Unit {0}) → ◌≡◌ {A = Option (Unit {0})} None (Some a) → ⊥
+none_some a e = let z : ◌≡◌ {A = ℕ} 0 1 = cc in omega arith

@@ -1,3 +1,2 @@
 pub mod Everything
 pub mod Everythings
-pub mod EverythingProblemLemmas

@@ -1,7 +1,6 @@
 ghost use Rattle.std.specs.Prelude.{◌≡◌, Some};
 ghost use Rattle.trials.specs.Everything.{everything};
-ghost use Rattle.trials.specs.Everythings.{everything_laws};
-ghost use Rattle.trials.specs.EverythingProblemLemmas.{none_some};
+ghost use Rattle.trials.specs.Everythings.{everything_laws, none_some};
 
 use lptype::problem::Problem;
 use rows::positions::Positions;

@@ -1,7 +1,7 @@
 -- What the two questions of a step tell about rows that are all filed and admitted.
 use Rattle.std.proofs.Common.{Bool, true, false, not, List, ◌∷◌, map, ℤ, Ok, Err, Decides, Result, refl, ⊎_elim}
 use Rattle.std.proofs.lemmas.Bool.{false≢true}
-use Rattle.rows.specs.Row.{Named, at, picked}
+use Rattle.rows.specs.Row.{Named, picked}
 use Rattle.rows.specs.declared.row.Row.{Row}
 use Rattle.rows.specs.declared.refusal.Refusal.{Refusal}
 use Rattle.lptype.specs.Meaning.{Meaning, Admitted, Stands}

@@ -6,7 +6,7 @@ ghost use Rattle.plane.specs.Answer.{Reads};
 ghost use Rattle.plane.specs.Few.{rows_of};
 ghost use Rattle.plane.specs.Standing.{StandingAt, AnswerFor};
 ghost use Rattle.limits.proofs.Lawful.{plane_laws};
-ghost use Rattle.std.proofs.Common.{rules, arith};
+ghost use Rattle.std.proofs.Common.{rules};
 
 use crate::answer::PlaneAnswer;
 use crate::few::Few;
@@ -76,7 +76,7 @@ impl Problem for Plane {
 
     ghost lawful = { λ t. plane_laws t.p t.q };
 
-    ghost apart = { first_of (Prim.search rules, Prim.grind (arith, Self.row.coded.inj)) };
+    ghost apart = { Prim.search rules };
 
     fn dimension(&self) -> usize {
         3

@@ -1,6 +1,5 @@
-use Rattle.std.proofs.Common.{map, length, is_ok, Decides, sym, ap, subst, arith, length-take}
+use Rattle.std.proofs.Common.{is_ok, Decides, subst}
 use Rattle.rows.specs.List.{positions}
-use Rattle.lptype.specs.Meaning.{Admitted}
 use Rattle.checking.specs.Checking.{CheckAnswer, BasisOfOpen}
 use Rattle.register.proofs.table_check.check_table.Goals as goal
 

@@ -4,4 +4,4 @@ use Rattle.register.specs.State.{Good}
 use Rattle.trials.proofs.tests.a_full_table_refuses.Given as goal
 
 abbrev pub invariant-loop : goal.invariant-loop
-invariant-loop l = Good boxes (state_of l.register)
+invariant-loop g l = Good boxes (state_of l.register)

@@ -1,4 +1,4 @@
-use Rattle.std.proofs.Common.{ℤ, pos, ◌<ℤ◌, sym, subst, w64, SFits, to_z, of_z, rules}
+use Rattle.std.proofs.Common.{ℤ, pos, ◌<ℤ◌, sym, subst, w64, SFits, rules}
 use Rattle.std.proofs.lemmas.Int.{to_z-of_z}
 use Rattle.lowest.specs.Reduced.{LowestTerms}
 use Rattle.disc.proofs.Upward.{Upward, is_upward, lowest_upward}

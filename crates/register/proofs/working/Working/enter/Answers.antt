@@ -1,6 +1,4 @@
-use Rattle.std.proofs.Common.{◌≡◌, ℤ, Ok, Err, refl, subst, w64}
-use Rattle.std.proofs.lemmas.Int.{to_z-of_z}
-use Rattle.register.specs.State.{EnterAnswer}
+use Rattle.std.proofs.Common.{Ok, Err, refl}
 use Rattle.register.specs.Days.{enters}
 use Rattle.register.specs.Calls.{state_of}
 use Rattle.register.proofs.Keeping.{extends}

@@ -1,11 +1,8 @@
-use Rattle.std.proofs.Common.{◌≡◌, ◌<◌, length, get_or, take, set, ℤ, nat_abs, Ok, sym, refl, ap, ◌∙◌, subst, arith, length-take, w64}
+use Rattle.std.proofs.Common.{◌≡◌, ◌<◌, get_or, take, set, ℤ, nat_abs, sym, refl, subst, arith, length-take, w64}
 use Rattle.std.proofs.lemmas.Int.{to_z-of_z}
-use Rattle.rows.specs.Judged.{Gives, Unless}
-use Rattle.rows.specs.Row.{HasRow, row_at, no_row}
+use Rattle.rows.specs.Row.{no_row}
 use Rattle.rows.specs.List.{positions}
-use Rattle.rows.specs.declared.row.Row.{Row}
 use Rattle.rows.specs.declared.row.Mark.TheVariants.{Open}
-use Rattle.rows.specs.declared.refusal.Refusal.TheVariants.{NoRow}
 use Rattle.register.specs.Calls.{state_of}
 use Rattle.register.specs.Table.{marked}
 use Rattle.checking.specs.Filed.{OnOpen}

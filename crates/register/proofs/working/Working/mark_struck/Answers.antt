@@ -1,15 +1,12 @@
-use Rattle.std.proofs.Common.{◌≡◌, ◌<◌, get_or, take, set, ℤ, nat_abs, Ok, sym, refl, ap, ◌∙◌, subst, arith, length-take, w64}
+use Rattle.std.proofs.Common.{◌≡◌, ◌<◌, get_or, take, set, ℤ, nat_abs, sym, refl, subst, arith, length-take, w64}
 use Rattle.std.proofs.lemmas.Int.{to_z-of_z}
-use Rattle.rows.specs.Judged.{Gives, Unless}
-use Rattle.rows.specs.Row.{HasRow, row_at, no_row}
+use Rattle.rows.specs.Row.{no_row}
 use Rattle.rows.specs.List.{positions}
-use Rattle.rows.specs.declared.row.Row.{Row}
 use Rattle.rows.specs.declared.row.Mark.TheVariants.{Struck}
-use Rattle.rows.specs.declared.refusal.Refusal.TheVariants.{NoRow}
 use Rattle.register.specs.Calls.{state_of}
 use Rattle.register.specs.Table.{marked}
 use Rattle.checking.specs.Filed.{OnOpen}
-use Rattle.register.specs.State.{State, StruckAt, Emptied, with_mark}
+use Rattle.register.specs.State.{State, StruckAt, Emptied}
 use Rattle.register.proofs.Filing.{rows_marked, filed_struck, good_struck}
 use Rattle.register.proofs.working.Working.mark_struck.Goals as goal
 

@@ -1,5 +1,4 @@
-use Rattle.std.proofs.Common.{[], sym, refl, ap, subst}
-use Rattle.rows.specs.List.{positions}
+use Rattle.std.proofs.Common.{[], sym, refl, subst}
 use Rattle.lptype.specs.Meaning.{Stands}
 use Rattle.rows.specs.Row.{picked}
 use Rattle.lptype.proofs.Standing.{stands_by}

@@ -1,8 +1,7 @@
 use Rattle.std.proofs.Common.{◌≡◌, ℕ, length, take, sym, refl, ap, ◌∙◌, subst, arith, length-take}
 use Rattle.checking.specs.Filed.{AllBelow, Covers}
 use Rattle.walk.specs.Shuffling.{shuffled}
-use Rattle.register.specs.State.{Good}
-use Rattle.register.specs.Days.{working, shuffling, shuffles, with_order, Extends}
+use Rattle.register.specs.Days.{working, shuffling, shuffles, Extends}
 use Rattle.register.specs.Calls.{state_of}
 use Rattle.register.proofs.Filing.{same_state}
 use Rattle.register.proofs.Keeping.{extends}

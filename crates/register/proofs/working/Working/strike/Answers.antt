@@ -1,4 +1,4 @@
-use Rattle.std.proofs.Common.{◌≡◌, ℤ, Ok, Err, refl, subst, w64}
+use Rattle.std.proofs.Common.{ℤ, Ok, Err, refl, subst, w64}
 use Rattle.std.proofs.lemmas.Int.{to_z-of_z}
 use Rattle.register.specs.State.{StrikeAnswer, StruckAt}
 use Rattle.register.specs.Days.{strikes}

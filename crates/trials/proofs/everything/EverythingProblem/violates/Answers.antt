@@ -1,4 +1,4 @@
-use Rattle.std.proofs.Common.{◌≡◌, ◌<◌, ◌∷◌, length, ℤ, Ok, Err, refl, subst, inl, inr, arith, w64}
+use Rattle.std.proofs.Common.{◌≡◌, ◌∷◌, length, ℤ, Ok, Err, refl, subst, inl, inr, arith, w64}
 use Rattle.std.proofs.lemmas.Int.{to_z-of_z}
 use Rattle.std.proofs.lemmas.Bool.{false≢true, true≢false}
 use Rattle.rows.specs.declared.refusal.Refusal.TheVariants.{NotStanding}

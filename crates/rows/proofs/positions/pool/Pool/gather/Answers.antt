@@ -1,7 +1,7 @@
-use Rattle.std.proofs.Common.{◌≡◌, ◌+◌, ◌<◌, ◌≤◌, length, get_or, take, drop, pos, sym, ap, ◌∙◌, arith, length-set, w64, SFits, rules}
+use Rattle.std.proofs.Common.{◌<◌, ◌≤◌, length, get_or, pos, sym, ◌∙◌, arith, length-set, w64, SFits, rules}
 use Rattle.std.proofs.lemmas.Int.{to_z-of_z}
 use Rattle.std.proofs.lemmas.List.{get_or-take, length-take-le}
-use Rattle.rows.specs.Pool.{pooled, chosen}
+use Rattle.rows.specs.Pool.{pooled}
 use Rattle.rows.proofs.Choosing.{pick_set, pick_clear, pick_all}
 use Rattle.rows.proofs.positions.pool.Pool.gather.Goals as goal
 use Rattle.rows.proofs.positions.pool.Pool.gather.Goals.{then-rest-eq1, else-rest-eq1}
