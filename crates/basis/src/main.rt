@@ -9,21 +9,22 @@ use bounds::problem::Bounds;
 use disc::problem::Disc;
 use format::command::Header;
 use format::line::LineBuffer;
-use input::Input;
+use input::next_line;
 use listing::answers::AnswerLine;
 use listing::line::{first_line, obey_line};
 use listing::obeying::Outcome;
 use listing::planes::plane_of;
-use listing::text::{report, settlement};
+use listing::text::Printer;
 use lptype::problem::Problem;
 use register::working::Working;
 use std::io;
+use std::io::{BufRead, BufReader};
 
 // Carries out the lines after the first, and prints what each has to say.
-fn run<P: Problem + Drop>(
+fn run<P: Problem + Drop, R: BufRead>(
     rt: &HostRuntime,
     problem: P,
-    input: &mut Input,
+    input: &mut R,
     line: &mut LineBuffer,
 ) -> io::Result<()>
 where
@@ -32,34 +33,36 @@ where
     let mut register = Working::new(problem);
     for number in 2..u64::MAX {
         line.clear();
-        if !input.next_line(line)? {
+        if !next_line(input, line)? {
             break;
         }
+        let printer = Printer::new(rt.alloc(), number);
         match obey_line(&mut register, line) {
             Ok(Outcome::Settle) => {
                 let settled = register.settle();
-                rt.print(settlement(rt.alloc(), number, &settled)?)?;
+                rt.print(printer.settlement(&settled)?)?;
                 register = settled.reopen();
             }
-            outcome => rt.print(report(rt.alloc(), number, outcome)?)?,
+            outcome => rt.print(printer.report(outcome)?)?,
         }
     }
     Ok(())
 }
 
 fn main(rt: HostRuntime) -> io::Result<()> {
-    let mut input = Input::new(rt.stdin());
+    let mut input = BufReader::new(rt.alloc(), rt.stdin())?;
     let mut line = LineBuffer::new();
-    if !input.next_line(&mut line)? {
+    if !next_line(&mut input, &mut line)? {
         return Ok(());
     }
+    let printer = Printer::new(rt.alloc(), 1);
     match first_line(&line) {
         Ok(Header::Disc) => run(&rt, Disc, &mut input, &mut line),
         Ok(Header::Plane { p, q }) => match plane_of(p, q) {
             Ok(plane) => run(&rt, plane, &mut input, &mut line),
-            Err(refusal) => rt.print(report(rt.alloc(), 1, Err(refusal))?),
+            Err(refusal) => rt.print(printer.report(Err(refusal))?),
         },
         Ok(Header::Bounds) => run(&rt, Bounds, &mut input, &mut line),
-        Err(refusal) => rt.print(report(rt.alloc(), 1, Err(refusal))?),
+        Err(refusal) => rt.print(printer.report(Err(refusal))?),
     }
 }

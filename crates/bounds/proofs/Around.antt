@@ -1,23 +1,22 @@
 -- The smallest box around rows, point by point; a row raises the value where the box misses it; a list stands where each row is needed.
-use Rattle.std.proofs.Common.{◌≡◌, ℕ, ◌+◌, ◌<◌, ◌≤◌, Bool, true, false, List, [], ◌∷◌, ◌++◌, map, length, get_or, take, drop, ℤ, pos, ◌≤ℤ◌, Decides, sym, refl, ap, ◌∙◌, subst, ⊎_elim, append_assoc, arith}
+use Rattle.std.proofs.Common.{◌≡◌, ◌+◌, ◌<◌, Bool, true, false, List, [], ◌∷◌, ◌++◌, length, get_or, take, drop, ℤ, ◌≤ℤ◌, Some, Decides, sym, refl, ap, ◌∙◌, subst, ⊎_elim, append_assoc, arith}
 use lib.Signed.{lt_z}
 use Rattle.std.specs.Int.{int_max, int_min}
 use Rattle.std.proofs.lemmas.Int.{ints, clamps}
 use Rattle.std.proofs.lemmas.Bool.{cases_Bool, both_ways, or_parts, or_from}
-use Rattle.std.proofs.lemmas.List.{append-nil, at_drop_more, at_drop_all, drop_more, take-append-drop, take-map, drop-map, map-append, get_or-map, length-map, take_at, drop_at, get_or_at, length-append, length_push}
-use Rattle.rows.specs.Row.{at, picked}
-use Rattle.rows.specs.declared.row.Row.{Row}
+use Rattle.std.proofs.lemmas.List.{append-nil, drop_more, take-append-drop, take_at, drop_at, get_or_at, length-append, length_push}
+use Rattle.rows.specs.Row.{no_row}
 use Rattle.rows.specs.declared.row.Constraint.{Constraint}
 use Rattle.lptype.specs.Meaning.{Less, Raises, Quiet, Stands}
+use Rattle.lptype.specs.Questions.{ReadsBest}
 use Rattle.lptype.proofs.Inside.{front_between, between_front}
 use Rattle.algebra.specs.Fraction.{whole, frac_le}
 use Rattle.algebra.proofs.Order.{lt_z_false, lt_z_not}
-use Rattle.bounds.specs.Bounds.{greatest, least, easting, northing, extent, boxes}
-use Rattle.bounds.specs.Sides.{box_around, with_point, with_points, outside, misses, others, AllNeeded}
-use Rattle.bounds.specs.declared.answer.BoundsAnswer.{BoundsAnswer}
+use Rattle.bounds.specs.Bounds.{greatest, least, easting, northing, extent, empty_box, box, boxes}
+use Rattle.bounds.specs.Sides.{Reads, box_around, with_point, with_points, outside, misses, others, AllNeeded}
 use Rattle.bounds.specs.declared.answer.BoundsAnswer.TheVariants.{Empty}
 use Rattle.bounds.specs.Directions.{stretch_same}
-use Rattle.bounds.specs.Boxes.{sides, extent_is, quiet_sides, sides_quiet, first_raises}
+use Rattle.bounds.specs.Boxes.{hull, hull_keeps, hull_size, sides, extent_is, quiet_sides, sides_quiet, first_raises}
 
 -- point by point
 
@@ -45,15 +44,12 @@ around_push (y ∷ F) x =
     cc
 
 -- the points of G added to the box around F
-around_more : (F G : List Constraint) → with_points (box_around F) G ≡ box_around (F ++ G)
+pub around_more : (F G : List Constraint) → with_points (box_around F) G ≡ box_around (F ++ G)
 around_more F [] = ap box_around (sym (append-nil F))
 around_more F (x ∷ G) = ap (λ k. with_points k G) (around_push F x) ∙ around_more (F ++ x ∷ []) G ∙ ap box_around (append_assoc F (x ∷ []) G)
 
 pub around_all : (F : List Constraint) → with_points Empty F ≡ box_around F
 around_all F = around_more [] F
-
-pub around_two : (F G : List Constraint) → with_points (with_points Empty F) G ≡ box_around (F ++ G)
-around_two F G = ap (λ k. with_points k G) (around_all F) ∙ around_more F G
 
 -- a row raises the value where the box misses it
 
@@ -100,39 +96,29 @@ left_out xs ys x B e =
 drop_past : (xs ys : List Constraint) (x : Constraint) → drop (length xs + 1) (xs ++ (x ∷ ys)) ≡ ys
 drop_past xs ys x = ap (drop (length xs + 1)) (sym (append_assoc xs (x ∷ []) ys)) ∙ drop_at (xs ++ x ∷ []) ys (length xs + 1) (length_push xs x)
 
-module _ (rows : List Row) (ps : List ℤ) where
-  picked_others : (i : ℕ) → picked rows (others ps i) ≡ take i (picked rows ps) ++ drop (i + 1) (picked rows ps)
-  picked_others i = map-append (at rows) (take i ps) (drop (i + 1) ps)
-      ∙ ap (λ l. l ++ map (at rows) (drop (i + 1) ps)) (sym (take-map (at rows) i ps))
-      ∙ ap (λ l. take i (map (at rows) ps) ++ l) (sym (drop-map (at rows) (i + 1) ps))
-
-  pub needed_stands : AllNeeded rows ps → Stands boxes (picked rows ps)
+module _ (F : List Constraint) where
+  needed_stands : AllNeeded F → Stands boxes F
   needed_stands n = record {
     without = λ xs ys x e.
-        let B = picked rows ps in
-        let l : length xs < length ps = omega (arith, length-map ps (at rows), ap length e, length-append xs (x ∷ ys)) in
-        let t : take (length xs) B ≡ xs = ap (take (length xs)) e ∙ take_at xs (x ∷ ys) (length xs) refl in
-        let d : drop (length xs + 1) B ≡ ys = ap (drop (length xs + 1)) e ∙ drop_past xs ys x in
-        let o : picked rows (others ps (length xs)) ≡ xs ++ ys = picked_others (length xs) ∙ ap (λ k. k ++ drop (length xs + 1) B) t ∙ ap (λ k. xs ++ k) d in
-        let g : at rows (get_or ps (length xs) (pos 0)) ≡ x = sym (get_or-map (at rows) ps (length xs) (pos 0) x l) ∙ ap (λ k. get_or k (length xs) x) e ∙ get_or_at xs x ys x (length xs) refl in
-        (left_out xs ys x B e).0 (sym (ap (λ k. misses (box_around k) x) o) ∙ sym (ap (misses (box_around (picked rows (others ps (length xs))))) g) ∙ n (length xs) l);
+        let l : length xs < length F = omega (arith, ap length e, length-append xs (x ∷ ys)) in
+        let t : take (length xs) F ≡ xs = ap (take (length xs)) e ∙ take_at xs (x ∷ ys) (length xs) refl in
+        let d : drop (length xs + 1) F ≡ ys = ap (drop (length xs + 1)) e ∙ drop_past xs ys x in
+        let o : others F (length xs) ≡ xs ++ ys = ap (λ k. k ++ drop (length xs + 1) F) t ∙ ap (λ k. xs ++ k) d in
+        let g : get_or F (length xs) no_row.constraint ≡ x = ap (λ k. get_or k (length xs) no_row.constraint) e ∙ get_or_at xs x ys no_row.constraint (length xs) refl in
+        (left_out xs ys x F e).0 (sym (ap (λ k. misses (box_around k) x) o) ∙ sym (ap (misses (box_around (others F (length xs)))) g) ∙ n (length xs) l);
   }
 
-  pub stands_needed : Stands boxes (picked rows ps) → AllNeeded rows ps
+  stands_needed : Stands boxes F → AllNeeded F
   stands_needed s i l =
-      let B = picked rows ps in
-      let x = at rows (get_or ps i (pos 0)) in
-      let j : i < length B = omega (arith, length-map ps (at rows)) in
-      let e : B ≡ take i B ++ (x ∷ drop (i + 1) B) = sym (take-append-drop i B) ∙ ap (λ k. take i B ++ k) (drop_more B i x j) ∙ ap (λ y. take i B ++ (y ∷ drop (i + 1) B)) (get_or-map (at rows) ps i (pos 0) x l) in
-      ap (λ k. misses (box_around k) x) (picked_others i) ∙ (left_out (take i B) (drop (i + 1) B) x B e).1 (s.without (take i B) (drop (i + 1) B) x e)
+      let x = get_or F i no_row.constraint in
+      let e : F ≡ take i F ++ (x ∷ drop (i + 1) F) = sym (take-append-drop i F) ∙ ap (λ k. take i F ++ k) (drop_more F i no_row.constraint l) in
+      (left_out (take i F) (drop (i + 1) F) x F e).1 (s.without (take i F) (drop (i + 1) F) x e)
 
-  pub needed_decides : (b : Bool) → Decides b (AllNeeded rows ps) → Decides b (Stands boxes (picked rows ps))
+  pub needed_decides : (b : Bool) → Decides b (AllNeeded F) → Decides b (Stands boxes F)
   needed_decides b d = ((λ t. needed_stands (d.0 t)), (λ s. d.1 (stands_needed s)))
 
-  -- the box, point by point
-
-  pub points_more : (k : BoundsAnswer) (i : ℕ) → i < length ps → with_points k (picked rows (drop i ps)) ≡ with_points (with_point k (at rows (get_or ps i (pos 0)))) (picked rows (drop (i + 1) ps))
-  points_more k i l = at_drop_more (λ qs. with_points k (picked rows qs)) ps i (pos 0) l
-
-  pub points_all : (k : BoundsAnswer) (i : ℕ) → length ps ≤ i → with_points k (picked rows (drop i ps)) ≡ k
-  points_all k i l = at_drop_all (λ qs. with_points k (picked rows qs)) ps i l
+-- the box around the rows reads as a best rival
+pub best_box : (F : List Constraint) → ReadsBest boxes Reads F (box_around F)
+unfolding hull
+best_box [] = (Some empty_box, tt, ((λ x i. absurd i), refl))
+best_box (x ∷ F) = (Some (box (hull x F)), (refl, refl, refl, refl), (hull_keeps x F, hull_size x F))

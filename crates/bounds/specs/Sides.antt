@@ -1,8 +1,8 @@
 -- The answer of the box: what it stands for, the smallest box around rows, and which points lie outside.
-use Rattle.std.specs.Prelude.{◌≡◌, ℕ, ◌+◌, ◌<◌, Bool, true, ◌||◌, List, [], ◌∷◌, ◌++◌, length, take, drop, ℤ, pos, Some, None, Option, int_lt, slice_index_or}
+use Rattle.std.specs.Prelude.{◌≡◌, ℕ, ◌+◌, ◌<◌, Bool, true, ◌||◌, List, [], ◌∷◌, ◌++◌, length, take, drop, ℤ, Some, None, Option, int_lt, slice_index_or}
 use Rattle.std.specs.Int.{int_max, int_min}
-use Rattle.rows.specs.Row.{at, picked}
-use Rattle.rows.specs.declared.row.Row.{Row}
+use Rattle.std.specs.List.{fold}
+use Rattle.rows.specs.Row.{no_row}
 use Rattle.rows.specs.declared.row.Constraint.{Constraint}
 use Rattle.algebra.specs.Fraction.{whole, frac_same}
 use Rattle.bounds.specs.Bounds.{BoxRival, empty_box, box, greatest, least, easting, northing}
@@ -28,9 +28,9 @@ abbrev pub with_point : BoundsAnswer → Constraint → BoundsAnswer
 with_point Empty x = Sides x.a x.a x.b x.b
 with_point (Sides w e s n) x = Sides (int_min w x.a) (int_max e x.a) (int_min s x.b) (int_max n x.b)
 
+-- the box, made just large enough for more points
 abbrev pub with_points : BoundsAnswer → List Constraint → BoundsAnswer
-with_points k [] = k
-with_points k (x ∷ F) = with_points (with_point k x) F
+with_points k F = fold with_point k F
 
 -- n is below the first or above the second
 abbrev pub outside : ℤ → ℤ → ℤ → Bool
@@ -42,13 +42,13 @@ misses Empty x = true
 misses (Sides w e s n) x = outside w e x.a || outside s n x.b
 
 -- the list without what stands at place i
-abbrev pub others : List ℤ → ℕ → List ℤ
-others ps i = take i ps ++ drop (i + 1) ps
+abbrev pub others : List Constraint → ℕ → List Constraint
+others F i = take i F ++ drop (i + 1) F
 
 -- the row at place i lies outside the smallest box around the others
-abbrev pub needed_at : List Row → List ℤ → ℕ → Bool
-needed_at rows ps i = misses (box_around (picked rows (others ps i))) (at rows (slice_index_or ps i (pos 0)))
+abbrev pub needed_at : List Constraint → ℕ → Bool
+needed_at F i = misses (box_around (others F i)) (slice_index_or F i no_row.constraint)
 
 -- so does each row of the list
-abbrev pub AllNeeded : List Row → List ℤ → Type 0
-AllNeeded rows ps = (i : ℕ) → i < length ps → needed_at rows ps i ≡ true
+abbrev pub AllNeeded : List Constraint → Type 0
+AllNeeded F = (i : ℕ) → i < length F → needed_at F i ≡ true

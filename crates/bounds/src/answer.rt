@@ -4,6 +4,7 @@ ghost use Rattle.bounds.specs.Sides.{outside, with_point, misses};
 use rows::row::Constraint;
 
 // A box: without any point, or with these four sides.
+// No Option: the empty box is a rival, and None would read as no rival.
 #[derive(Clone, Copy)]
 pub enum BoundsAnswer {
     Empty,
@@ -19,7 +20,7 @@ pub enum BoundsAnswer {
 fn outside(low: i32, high: i32, n: i32) -> bool
     ensures { result ≡ outside low high n }
 {
-    n < low || high < n
+    !(low..=high).contains(&n)
 }
 
 impl BoundsAnswer {

@@ -7,10 +7,8 @@ ghost use Rattle.std.proofs.Common.{rules};
 use crate::answer::BoundsAnswer;
 use crate::sides::{all_needed, around};
 use lptype::problem::Problem;
-use points::{is_point, point_at};
-use rows::positions::Positions;
-use rows::refusal::Refusal;
-use rows::row::Row;
+use points::is_point;
+use rows::row::Constraint;
 
 // The smallest box, with sides along the axes, around the points of the rows.
 #[derive(Clone, Copy)]
@@ -35,27 +33,15 @@ impl Problem for Bounds {
         is_point(a, b, c)
     }
 
-    fn stands(&self, rows: &[Row], list: &Positions) -> Result<bool, Refusal> {
-        let s = list.as_slice();
-        self.sound(rows, s)?;
-        Ok(all_needed(rows, s))
+    fn is_standing(&self, list: &[Constraint]) -> bool {
+        all_needed(list)
     }
 
-    fn violates(&self, rows: &[Row], list: &Positions, h: i64) -> Result<bool, Refusal> {
-        let s = list.as_slice();
-        self.sound_with(rows, s, h)?;
-        if !all_needed(rows, s) {
-            return Err(Refusal::NotStanding);
-        }
-        Ok(around(rows, s).misses(point_at(rows, h)))
+    fn is_raised(&self, list: &[Constraint], row: Constraint) -> bool {
+        around(list).misses(row)
     }
 
-    fn answer(&self, rows: &[Row], list: &Positions) -> Result<BoundsAnswer, Refusal> {
-        let s = list.as_slice();
-        self.sound(rows, s)?;
-        if !all_needed(rows, s) {
-            return Err(Refusal::NotStanding);
-        }
-        Ok(around(rows, s))
+    fn best(&self, list: &[Constraint]) -> BoundsAnswer {
+        around(list)
     }
 }

@@ -1,4 +1,4 @@
 pub mod Occurring
 pub mod Opening
-pub mod Refusing
+pub mod Admitting
 pub mod Passing

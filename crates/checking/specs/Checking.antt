@@ -1,14 +1,28 @@
 -- What check answers, and when it passes a list.
-use Rattle.std.specs.Prelude.{◌≡◌, ℕ, ◌<◌, ◌≤◌, List, [], ◌∷◌, map, length, ℤ, Ok, Err, Result, slice_index_or, unsigned_abs}
+use Rattle.std.specs.Prelude.{◌≡◌, ℕ, ◌<◌, List, [], ◌∷◌, length, ℤ, Ok, Err, Result, slice_index_or, unsigned_abs}
+use Rattle.std.specs.List.{AllByRecursion}
+use Rattle.arrayvec.specs.ArrayVec.{ArrayVec}
 use Rattle.rows.specs.Row.{HasRow, Named, AllOpen, row_at, at, picked, no_row}
-use Rattle.rows.specs.Judged.{Unless}
+use Rattle.rows.specs.Judged.{Gives, Unless}
 use Rattle.rows.specs.declared.row.Constraint.{Constraint}
 use Rattle.rows.specs.declared.row.Row.{Row}
 use Rattle.rows.specs.declared.row.Mark.{Mark}
 use Rattle.rows.specs.declared.row.Mark.TheVariants.{Open, Struck}
 use Rattle.rows.specs.declared.refusal.Refusal.{Refusal}
 use Rattle.rows.specs.declared.refusal.Refusal.TheVariants.{NoRow, StruckRow, NotStanding, Violated}
-use Rattle.lptype.specs.Meaning.{Meaning, Admitted, Raises, Quiet, Stands, SameValue}
+use Rattle.lptype.specs.Meaning.{Meaning, Raises, Quiet, Stands, SameValue}
+
+-- position p has an open row
+abbrev pub OpenAt : List Row → ℤ → Type 0
+OpenAt rows p = HasRow rows p × ((row_at rows p).mark ≡ Open)
+
+-- every position has an open row
+abbrev pub EachOpen : List Row → List ℤ → Type 0
+EachOpen rows ps = AllByRecursion (OpenAt rows) ps
+
+-- the rows at the positions, unless one has no row or a struck one
+abbrev pub PickedOpen : List Row → List ℤ → Result (ArrayVec Constraint) Refusal → Type 0
+PickedOpen rows ps = Unless NoRow (Named rows ps) (Unless StruckRow (AllOpen rows ps) (Gives (λ v. v.items ≡ picked rows ps)))
 
 -- no open row before place n raises the value of F
 abbrev pub QuietBefore : Meaning → List Row → List Constraint → ℕ → Type 0
@@ -46,9 +60,3 @@ pub record BasisOfOpen (m : Meaning) (rows : List Row) (ps : List ℤ) : Type 0 
   pub all_open : AllOpen rows ps
   pub value : SameValue m (picked rows ps) (open_rows rows)
   pub stands : Stands m (picked rows ps)
-
--- rows that are admitted and few enough to be counted, and positions that all have one
-pub record Filed (m : Meaning) (rows : List Row) (ps : List ℤ) : Type 0 where
-  pub admitted : Admitted m (map (λ row. row.constraint) rows)
-  pub few : length rows ≤ 256
-  pub named : Named rows ps

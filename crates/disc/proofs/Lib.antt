@@ -1,4 +1,4 @@
 pub mod Products
 pub mod Upward
-pub mod Figures
-pub mod Answering
+pub mod ByLength
+pub mod Best

@@ -1,3 +1,1 @@
-pub mod Vectors
 pub mod Centres
-pub mod Figures

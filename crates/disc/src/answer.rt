@@ -1,6 +1,9 @@
-// The smallest disc: without any point, or by its centre x/d, y/d in lowest terms.
+use lowest::reduce::RationalPoint;
+
+// The smallest disc: without any point, or by its centre.
+// An enum of its own: the empty disc is a rival, and an Option's None would read as no rival.
 #[derive(Clone, Copy)]
 pub enum DiscAnswer {
     Empty,
-    Centre { x: i64, y: i64, d: i64 },
+    Centre(RationalPoint),
 }

@@ -1,9 +1,8 @@
 #![tactic(auto)]
 
-mod angles;
 pub mod answer;
-mod centre;
-mod figure;
 mod place;
+mod point;
 pub mod problem;
+mod triangle;
 mod vector;

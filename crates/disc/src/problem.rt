@@ -4,12 +4,12 @@ ghost use Rattle.circles.proofs.Values.{discs_laws};
 ghost use Rattle.std.proofs.Common.{rules};
 
 use crate::answer::DiscAnswer;
-use crate::figure::figure_of;
+use crate::place::Place;
+use crate::point::Point;
+use crate::triangle::Triangle;
 use lptype::problem::Problem;
-use points::{is_point, point_at};
-use rows::positions::Positions;
-use rows::refusal::Refusal;
-use rows::row::Row;
+use points::is_point;
+use rows::row::Constraint;
 
 // The smallest disc around the points of the rows.
 #[derive(Clone, Copy)]
@@ -34,29 +34,38 @@ impl Problem for Disc {
         is_point(a, b, c)
     }
 
-    fn stands(&self, rows: &[Row], list: &Positions) -> Result<bool, Refusal> {
-        let s = list.as_slice();
-        self.sound(rows, s)?;
-        Ok(figure_of(rows, s).stands())
+    fn is_standing(&self, list: &[Constraint]) -> bool {
+        match *list {
+            [] | [_] => true,
+            [p, q] => Point::new(p).differs(Point::new(q)),
+            [p, q, r] => Triangle::new(p, q, r).is_acute(),
+            _ => false,
+        }
     }
 
-    fn violates(&self, rows: &[Row], list: &Positions, h: i64) -> Result<bool, Refusal> {
-        let s = list.as_slice();
-        self.sound_with(rows, s, h)?;
-        let points = figure_of(rows, s);
-        if !points.stands() {
-            return Err(Refusal::NotStanding);
+    fn is_raised(&self, list: &[Constraint], row: Constraint) -> bool {
+        let h = Point::new(row);
+        match *list {
+            [] => true,
+            [p] => Point::new(p).differs(h),
+            [p, q] => h.is_outside(Point::new(p), Point::new(q)),
+            [p, q, r] => Triangle::new(p, q, r).leaves_out(h),
+            // More than three points never stand.
+            _ => unreachable(),
         }
-        Ok(points.misses(point_at(rows, h)))
     }
 
-    fn answer(&self, rows: &[Row], list: &Positions) -> Result<DiscAnswer, Refusal> {
-        let s = list.as_slice();
-        self.sound(rows, s)?;
-        let points = figure_of(rows, s);
-        if !points.stands() {
-            return Err(Refusal::NotStanding);
+    fn best(&self, list: &[Constraint]) -> DiscAnswer {
+        match *list {
+            [] => DiscAnswer::Empty,
+            [p] => {
+                let p = Point::new(p);
+                DiscAnswer::Centre(Place::halfway(p, p).reduced())
+            }
+            [p, q] => DiscAnswer::Centre(Place::halfway(Point::new(p), Point::new(q)).reduced()),
+            [p, q, r] => DiscAnswer::Centre(Triangle::new(p, q, r).circumcentre().reduced()),
+            // More than three points never stand.
+            _ => unreachable(),
         }
-        Ok(points.centre())
     }
 }

@@ -1,5 +1,5 @@
 -- The parts of a list cut at a byte: how many there are, what they join to, and which is first.
-use Rattle.std.proofs.Common.{◌≡◌, ℕ, zero, suc, ◌+◌, ◌-◌, ◌<◌, ◌≤◌, cond, eqb, leb, List, [], ◌∷◌, length, get_or, take, drop, count_by, sym, refl, ap, ◌∙◌, subst, ⊎_elim, arith, length-drop, take_all}
+use Rattle.std.proofs.Common.{◌≡◌, ℕ, zero, suc, ◌+◌, ◌-◌, ◌<◌, ◌≤◌, cond, eqb, leb, List, [], ◌∷◌, length, get_or, take, drop, count_by, sym, refl, ap, ◌∙◌, ⊎_elim, arith, length-drop, take_all}
 use Rattle.std.proofs.lemmas.List.{drop-drop}
 use Rattle.std.proofs.lemmas.List.Sums.{sum_by-cons}
 use Rattle.std.proofs.lemmas.Bool.{cond_both, eqb-true, eqb-false, eq-eqb, ne_eqb, le-leb, lt-leb, cases_lt, cases_Bool, cond-true, cond-false}
@@ -52,20 +52,18 @@ uncut sep [] free = refl
 uncut sep (b ∷ bs) free =
     cond-false (eqb b sep) _ _ (ne_eqb b sep (free 0 (omega arith))) ∙ ap (led b) (uncut sep bs (λ k l. free (suc k) (omega arith)))
 
--- a reader of fields goes from index i to past the next comma, which is n bytes on, or past the end
-pub next_field : (line bs : List ℕ) (i n : ℕ) → bs ≡ drop i line → i ≤ length line → n ≤ length bs → Free 44 bs n → (n < length bs → get_or bs n 0 ≡ 44) → fields_from line i ≡ take n (drop i line) ∷ fields_from line (i + n + 1)
-next_field line bs i n e h within free at =
-    let d : drop (suc n) (drop i line) ≡ drop (i + n + 1) line = drop-drop (suc n) i line ∙ ap (λ k. drop k line) (omega arith) in
-    let l : length (drop i line) ≡ length line - i = length-drop i line in
-    let f = subst (λ x. Free 44 x n) e free in
-    let w : n ≤ length (drop i line) = subst (λ x. n ≤ length x) e within in
-    cond-true (leb i (length line)) _ _ (le-leb i (length line) h) ∙
+-- a reader of fields goes from index i, at which rest begins, to past the next comma, which is n bytes on, or past the end
+pub next_field : (line rest : List ℕ) (i n : ℕ) → rest ≡ drop i line → i ≤ length line → n ≤ length rest → Free 44 rest n → (n < length rest → get_or rest n 0 ≡ 44) → fields_from line i ≡ take n rest ∷ fields_from line (i + (n + 1))
+next_field line rest i n e h within free at =
+    let d : drop (suc n) rest ≡ drop (i + (n + 1)) line = ap (drop (suc n)) e ∙ drop-drop (suc n) i line ∙ ap (λ k. drop k line) (omega arith) in
+    let l : length rest ≡ length line - i = ap length e ∙ length-drop i line in
+    cond-true (leb i (length line)) _ _ (le-leb i (length line) h) ∙ ap (parts 44) (sym e) ∙
     ⊎_elim
     (λ inside.
-    cut_at 44 (drop i line) n inside f (subst (λ x. n < length x → get_or x n 0 ≡ 44) e at inside)
-    ∙ ap (λ ps. take n (drop i line) ∷ ps) (ap (parts 44) d ∙ sym (cond-true _ _ _ (le-leb (i + n + 1) (length line) (omega arith)))))
+    cut_at 44 rest n inside free (at inside)
+    ∙ ap (λ ps. take n rest ∷ ps) (ap (parts 44) d ∙ sym (cond-true _ _ _ (le-leb (i + (n + 1)) (length line) (omega arith)))))
     (λ end.
-    uncut 44 (drop i line) (λ k less. f k (omega arith))
-    ∙ ap (λ x. x ∷ []) (sym (take_all n (drop i line) end))
-    ∙ ap (λ ps. take n (drop i line) ∷ ps) (sym (cond-false _ _ _ (lt-leb (i + n + 1) (length line) (omega arith)))))
-    (cases_lt n (length (drop i line)))
+    uncut 44 rest (λ k less. free k (omega arith))
+    ∙ ap (λ x. x ∷ []) (sym (take_all n rest end))
+    ∙ ap (λ ps. take n rest ∷ ps) (sym (cond-false _ _ _ (lt-leb (i + (n + 1)) (length line) (omega arith)))))
+    (cases_lt n (length rest))

@@ -14,20 +14,17 @@ use Rattle.fields.specs.declared.number.NumberReader.{NumberReader}
 use Rattle.fields.specs.declared.number.State.{State}
 use Rattle.fields.specs.declared.number.State.TheVariants as state
 use Rattle.fields.specs.Numeral.{Writes, IsNumber, NumberRead, ReadExactly}
-use Rattle.fields.specs.Reader.{fresh, extended, after, number_in, Stepped}
+use Rattle.fields.specs.Reader.{extended, after, number_in, Stepped}
 
 -- what a reader in each state has taken
-abbrev pub ReadIn : State → ℤ → List ℕ → Type 0
-ReadIn state.Start v bs = bs ≡ []
-ReadIn state.Minus v bs = bs ≡ 45 ∷ []
-ReadIn state.Zero v bs = bs ≡ 48 ∷ []
-ReadIn state.Digits v bs = Writes bs v × (0 < nat_abs v)
+abbrev pub ReadIn : State → List ℕ → Type 0
+ReadIn state.Start bs = bs ≡ []
+ReadIn state.Minus bs = bs ≡ 45 ∷ []
+ReadIn state.Zero bs = bs ≡ 48 ∷ []
+ReadIn (state.Digits v) bs = Writes bs v × (0 < nat_abs v)
 
 abbrev pub Read : NumberReader → List ℕ → Type 0
-Read n bs = ReadIn n.state n.value bs
-
-pub read_none : Read fresh []
-read_none = refl
+Read n bs = ReadIn n.state bs
 
 -- the digits of a number of at most ten
 digit_in : (n i : ℕ) → n < 10 ^ 10 → i < length (decimal n) → IsInRange 48 57 (get_or (decimal n) i 0)
@@ -102,9 +99,9 @@ in_range lo hi b e = grind (arith, nat_tests)
 out_of_range : (lo hi b : ℕ) → (leb lo b && leb b hi) ≡ false → IsInRange lo hi b → ⊥
 out_of_range lo hi b e h = grind (arith, nat_tests)
 
--- o is the reader after bs and b; none where no number begins so
-abbrev pub NextRead : List ℕ → ℕ → Option NumberReader → Type 0
-NextRead bs b o = MatchOption o ((rest : List ℕ) → IsNumber (bs ++ b ∷ rest) → ⊥) (λ m. Read m (bs ++ b ∷ []))
+-- o is the state after bs and b; none where no number begins so
+abbrev pub NextRead : List ℕ → ℕ → Option State → Type 0
+NextRead bs b o = MatchOption o ((rest : List ℕ) → IsNumber (bs ++ b ∷ rest) → ⊥) (λ s. ReadIn s (bs ++ b ∷ []))
 
 no_start : (b : ℕ) (rest : List ℕ) → (b ≡ 45 → ⊥) → (b ≡ 48 → ⊥) → (IsInRange 49 57 b → ⊥) → IsNumber (b ∷ rest) → ⊥
 no_start b rest not-minus not-zero not_digit (z, w) =
@@ -114,8 +111,8 @@ no_start b rest not-minus not-zero not_digit (z, w) =
     (λ d. ⊎_elim (λ low. not-zero (omega arith)) (λ high. not_digit (high, omega arith)) (cases_lt b 49))
     (first_byte z w.1)
 
-at_start : (v : ℤ) (b : ℕ) → NextRead [] b (after state.Start v b)
-at_start v b =
+at_start : (b : ℕ) → NextRead [] b (after state.Start b)
+at_start b =
     cond_both (eqb b 45) _ _ (NextRead [] b)
     (λ is. ap (λ x. x ∷ []) (eqb-true b 45 is))
     (λ not-minus.
@@ -134,8 +131,8 @@ after_minus b rest (negsuc n, w) =
     let f = first_decimal (suc n) (omega arith) (omega arith) in
     (omega arith, omega arith)
 
-at_minus : (v : ℤ) (b : ℕ) → NextRead (45 ∷ []) b (after state.Minus v b)
-at_minus v b =
+at_minus : (b : ℕ) → NextRead (45 ∷ []) b (after state.Minus b)
+at_minus b =
     cond_both (leb 49 b && leb b 57) _ _ (NextRead (45 ∷ []) b)
     (λ is.
     let r = in_range 49 57 b is in
@@ -154,7 +151,7 @@ at_zero b rest (pos n, w) =
     (cases_eq n 0)
 at_zero b rest (negsuc n, w) = let e : ◌≡◌ {A = ℕ} 48 45 = ap (λ l. get_or l 0 0) w.0 in omega arith
 
-at_digits : (v : ℤ) (b : ℕ) → nat_abs v < 10 ^ 10 → 0 < nat_abs v → NextRead (signed_decimal v) b (after state.Digits v b)
+at_digits : (v : ℤ) (b : ℕ) → nat_abs v < 10 ^ 10 → 0 < nat_abs v → NextRead (signed_decimal v) b (after (state.Digits v) b)
 at_digits v b h some =
     cond_both ((leb 48 b && leb b 57) && ltb (nat_abs v) 1000000000) _ _ (NextRead (signed_decimal v) b)
     (λ is.
@@ -171,17 +168,17 @@ at_digits v b h some =
     (λ o. let large : 1000000000 ≤ nat_abs v = ltb-false (nat_abs v) 1000000000 o in omega arith)
     (and_cases _ _ out))
 
-pub read_more : (s : State) (v : ℤ) (bs : List ℕ) (b : ℕ) → ReadIn s v bs → NextRead bs b (after s v b)
-read_more state.Start v bs b h = rw h (at_start v b)
-read_more state.Minus v bs b h = rw h (at_minus v b)
-read_more state.Zero v bs b h = rw h (at_zero b)
-read_more state.Digits v bs b h = rw h.0.0 (at_digits v b h.0.1 h.1)
+pub read_more : (s : State) (bs : List ℕ) (b : ℕ) → ReadIn s bs → NextRead bs b (after s b)
+read_more state.Start bs b h = rw h (at_start b)
+read_more state.Minus bs b h = rw h (at_minus b)
+read_more state.Zero bs b h = rw h (at_zero b)
+read_more (state.Digits v) bs b h = rw h.0.0 (at_digits v b h.0.1 h.1)
 
 -- the same of a step by its answer
 pub read_step : (n m : NumberReader) (r : Bool) (bs : List ℕ) (b : ℕ) → Read n bs → Stepped n b r m → MatchBool r (Read m (bs ++ b ∷ [])) ((rest : List ℕ) → IsNumber (bs ++ b ∷ rest) → ⊥)
-read_step n m r bs b h t = by (after n.state n.value b) (read_more n.state n.value bs b h) t
+read_step n m r bs b h t = by (after n.state b) (read_more n.state bs b h) t
   where
-    by : (o : Option NumberReader) → NextRead bs b o → MatchOption o ((r ≡ false) × (m ≡ n)) (λ x. (r ≡ true) × (m ≡ x)) → MatchBool r (Read m (bs ++ b ∷ [])) ((rest : List ℕ) → IsNumber (bs ++ b ∷ rest) → ⊥)
+    by : (o : Option State) → NextRead bs b o → MatchOption o ((r ≡ false) × (m ≡ n)) (λ s. (r ≡ true) × (m ≡ record { state = s })) → MatchBool r (Read m (bs ++ b ∷ [])) ((rest : List ℕ) → IsNumber (bs ++ b ∷ rest) → ⊥)
     by None w s = rw s.0 w
     by (Some x) w s = rw (s.0, s.1) w
 
@@ -192,11 +189,11 @@ only_minus : (z : ℤ) → nat_abs z < 10 ^ 10 → 45 ∷ [] ≡ signed_decimal 
 only_minus (pos n) h e = let same : 45 ≡ get_or (decimal n) 0 0 = ap (λ l. get_or l 0 0) e in omega (arith, first_digit n h)
 only_minus (negsuc n) h e = let same : 0 ≡ length (decimal (suc n)) = ap (λ l. length (drop 1 l)) e in omega (arith, decimal_nonempty (suc n) (omega arith))
 
-pub read_all : (s : State) (v : ℤ) (bs : List ℕ) → ReadIn s v bs → NumberRead bs (number_in s v)
-read_all state.Start v bs h = λ w. no_bytes w.0 w.1.1 (sym h ∙ w.1.0)
-read_all state.Minus v bs h = λ w. only_minus w.0 w.1.1 (sym h ∙ w.1.0)
-read_all state.Zero v bs h = (h ∙ sym (decimal_digit 0 (omega arith)), omega arith)
-read_all state.Digits v bs h = h.0
+pub read_all : (s : State) (bs : List ℕ) → ReadIn s bs → NumberRead bs (number_in s)
+read_all state.Start bs h = λ w. no_bytes w.0 w.1.1 (sym h ∙ w.1.0)
+read_all state.Minus bs h = λ w. only_minus w.0 w.1.1 (sym h ∙ w.1.0)
+read_all state.Zero bs h = (h ∙ sym (decimal_digit 0 (omega arith)), omega arith)
+read_all (state.Digits v) bs h = h.0
 
 small_fits : (x : ℤ) → nat_abs x < 10 ^ 10 → mag x < 2 ^ 63
 small_fits (pos n) l = omega arith

@@ -1,5 +1,6 @@
 #![tactic(auto)]
 
+pub mod byte;
 pub mod number;
 #[cfg(test)]
 mod tests;

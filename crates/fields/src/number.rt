@@ -2,20 +2,19 @@ ghost use Rattle.std.specs.Prelude.{◌≡◌, ◌-◌, ◌<◌, ◌≤◌, unsi
 ghost use Rattle.fields.specs.Numeral.{NumberRead, ReadExactly};
 ghost use Rattle.fields.specs.Reader.{fresh, number_of, extended, Stepped};
 
-// How much of a number the bytes so far are.
+// How much of a number the bytes so far are; `Digits` has the number that they write.
 #[derive(Clone, Copy, PartialEq, Eq)]
 pub enum State {
     Start,
     Minus,
     Zero,
-    Digits,
+    Digits(i64),
 }
 
-// Reads a number byte by byte. In `Digits`, `value` is the number so far.
+// Reads a number byte by byte.
 #[derive(Clone, Copy)]
 pub struct NumberReader {
     state: State,
-    value: i64,
 }
 
 // The number with one more digit at its end.
@@ -36,7 +35,6 @@ impl NumberReader {
     {
         NumberReader {
             state: State::Start,
-            value: 0,
         }
     }
 
@@ -44,25 +42,16 @@ impl NumberReader {
     pub fn step(&mut self, byte: u8) -> bool
         ensures { Stepped self.old byte result self.new }
     {
-        match (self.state, byte) {
-            (State::Start, b'-') => self.state = State::Minus,
-            (State::Start, b'0') => self.state = State::Zero,
-            (State::Start, b'1'..=b'9') => {
-                self.state = State::Digits;
-                self.value = i64::from(byte - b'0');
-            }
-            (State::Minus, b'1'..=b'9') => {
-                self.state = State::Digits;
-                self.value = -i64::from(byte - b'0');
-            }
-            (State::Digits, b'0'..=b'9') => {
-                if self.value.unsigned_abs() >= 1_000_000_000 {
-                    return false;
-                }
-                self.value = extend(self.value, byte - b'0');
+        self.state = match (self.state, byte) {
+            (State::Start, b'-') => State::Minus,
+            (State::Start, b'0') => State::Zero,
+            (State::Start, b'1'..=b'9') => State::Digits(i64::from(byte - b'0')),
+            (State::Minus, b'1'..=b'9') => State::Digits(-i64::from(byte - b'0')),
+            (State::Digits(value), b'0'..=b'9') if value.unsigned_abs() < 1_000_000_000 => {
+                State::Digits(extend(value, byte - b'0'))
             }
             _ => return false,
-        }
+        };
         true
     }
 
@@ -73,7 +62,7 @@ impl NumberReader {
         match self.state {
             State::Start | State::Minus => None,
             State::Zero => Some(0),
-            State::Digits => Some(self.value),
+            State::Digits(value) => Some(value),
         }
     }
 }

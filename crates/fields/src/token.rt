@@ -1,8 +1,10 @@
 ghost use Rattle.std.specs.Prelude.{◌≡◌, ℕ, ◌<◌, ◌≤◌, length, ◌≢◌, slice_index};
+ghost use Rattle.std.specs.Iterator.{item_count};
 ghost use Rattle.fields.specs.Fields.{fields, left, bytes_of, Told, FieldHanded, TokenHanded};
 ghost use Rattle.fields.specs.Numeral.{NumberRead};
 ghost use Rattle.fields.specs.Parts.{PartsOf};
 
+use crate::byte::find_byte;
 use crate::number::read_number;
 
 // A field of a line, told apart by whether it is a number.
@@ -12,23 +14,26 @@ pub enum Token<'a> {
     Number(&'a [u8]),
 }
 
-impl<'a> Token<'a> {
-    fn of(field: &'a [u8]) -> Token<'a>
-        ensures { (bytes_of result ≡ field.now) × (Told result) }
-    {
-        match read_number(field) {
-            Some(_) => Token::Number(field),
-            None => Token::Word(field),
+// A field as a token: a number where it is one, else a word.
+impl<'a> From<&'a [u8]> for Token<'a> {
+    ghost from_gives = { λ field token. (bytes_of token ≡ field.now) × Told token };
+
+    fn from(field: &'a [u8]) -> Token<'a> {
+        if read_number(field).is_some() {
+            Token::Number(field)
+        } else {
+            Token::Word(field)
         }
     }
+}
 
+impl<'a> Token<'a> {
     // The bytes of the field.
     pub fn bytes(self) -> &'a [u8]
         ensures { result.now ≡ bytes_of self.entry }
     {
         match self {
-            Token::Word(bytes) => bytes,
-            Token::Number(bytes) => bytes,
+            Token::Word(bytes) | Token::Number(bytes) => bytes,
         }
     }
 
@@ -48,13 +53,7 @@ pub fn field_count(line: &[u8]) -> usize
     ensures count { result ≡ length (fields line.now) }
     ensures parts { PartsOf 44 line.now (fields line.now) }
 {
-    let mut count = 1;
-    for byte in line {
-        if *byte == b',' {
-            count += 1;
-        }
-    }
-    count
+    1 + line.iter().filter(|byte| **byte == b',').count()
 }
 
 // The index of the first comma, or the length where there is none.
@@ -63,16 +62,11 @@ fn comma(bytes: &[u8]) -> usize
     ensures before { (k : ℕ) → k < result → slice_index bytes.now k ≢ 44 }
     ensures found { result < length bytes.now → slice_index bytes.now result ≡ 44 }
 {
-    for (i, byte) in bytes.iter().enumerate() {
-        if *byte == b',' {
-            return i;
-        }
-    }
-    bytes.len()
+    find_byte(b',', bytes).unwrap_or(bytes.len())
 }
 
-// Hands out the fields of a line, one at a time. `next` is where the next field begins,
-// one past the line's end where none is left.
+// Hands out the fields of a line, one at a time. By a rule of the project it tells the place of a field, so it holds the line
+// and indices in it. `next` is where the next field begins, one past the line's end where none is left.
 #[derive(Drop)]
 pub struct Fields<'a> {
     line: &'a [u8],
@@ -97,28 +91,11 @@ impl<'a> Fields<'a> {
     fn next_field(&mut self) -> Option<&'a [u8]>
         ensures { FieldHanded self.old result self.new }
     {
-        let line = self.line;
-        let start = self.next;
-        if start > line.len() {
-            return None;
-        }
-        let end = start + comma(&line[start..]);
-        *self = Fields {
-            line,
-            next: end + 1,
-            place: start,
-        };
-        Some(&line[start..end])
-    }
-
-    // The next field, if one is left.
-    pub fn next_token(&mut self) -> Option<Token<'a>>
-        ensures { TokenHanded self.old result self.new }
-    {
-        match self.next_field() {
-            Some(field) => Some(Token::of(field)),
-            None => None,
-        }
+        let rest = self.line.get(self.next..)?;
+        let field = &rest[..comma(rest)];
+        self.place = self.next;
+        self.next += field.len() + 1;
+        Some(field)
     }
 
     // Where the field last handed out begins; 0 before the first.
@@ -126,5 +103,17 @@ impl<'a> Fields<'a> {
         ensures { result ≡ self.now.place }
     {
         self.place
+    }
+}
+
+impl<'a> Iterator for Fields<'a> {
+    type Item = Token<'a>;
+
+    ghost next_gives = { TokenHanded };
+
+    ghost remaining = { item_count left };
+
+    fn next(&mut self) -> Option<Token<'a>> {
+        self.next_field().map(Token::from)
     }
 }

@@ -1,36 +1,11 @@
 -- Bytes that are collected into a line: what is kept of them, and which lines of the file they make.
-use Rattle.std.proofs.Common.{◌≡◌, ℕ, zero, suc, ◌+◌, ◌<◌, ◌≤◌, Bool, true, false, eqb, List, [], ◌∷◌, ◌++◌, length, get_or, take, drop, set, MatchBool, sym, refl, ap, ◌∙◌, subst, append_assoc, arith, take-append-drop, length-take-le, take_all}
+use Rattle.std.proofs.Common.{◌≡◌, ℕ, zero, suc, ◌+◌, ◌<◌, ◌≤◌, eqb, List, [], ◌∷◌, ◌++◌, length, get_or, take, drop, sym, refl, ap, ◌∙◌, subst, append_assoc, arith, take-append-drop, take_all}
 use Rattle.std.proofs.ByRecursion.{All-append}
-use Rattle.std.proofs.lemmas.List.{take_more_set, drop_more, length_push}
+use Rattle.std.proofs.lemmas.List.{drop_more}
 use Rattle.std.proofs.lemmas.Bool.{cond-false, ne_eqb}
 use Rattle.fields.specs.Parts.{led, Without}
 use Rattle.fields.proofs.Cutting.{Free}
-use Rattle.format.specs.Line.{Holds, Kept}
 use Rattle.format.specs.Lines.{lines, opened}
-use Rattle.format.specs.declared.line.LineBuffer.{LineBuffer}
-
--- what is held by a buffer with these fields
-abbrev Held : Bool → ℕ → List ℕ → List ℕ → Type 0
-Held long count kept xs = MatchBool long (80 < length xs) ((length xs ≤ 80) × (take count kept ≡ xs))
-
-held_more : (long : Bool) (count : ℕ) (kept xs : List ℕ) (b : ℕ) → length kept ≡ 80 → count < 80 → (long ≡ true → count ≡ 80) → Held long count kept xs → Held long (count + 1) (set kept count b) (xs ++ b ∷ [])
-held_more true count kept xs b room less full h = absurd (omega (arith, full refl))
-held_more false count kept xs b room less full h =
-    let n : length xs ≡ count = sym (ap length h.1) ∙ length-take-le count kept (omega arith) in
-    (omega (arith, length_push xs b), take_more_set kept count b (omega arith) ∙ ap (λ l. l ++ b ∷ []) h.1)
-
--- a byte is kept while there is room
-pub kept_more : (before after : LineBuffer) (xs : List ℕ) (b : ℕ) → length before.kept ≡ 80 → before.count < 80 → Kept before b after → Holds before xs → Holds after (xs ++ b ∷ [])
-kept_more before after xs b room less k h =
-    rw (k.0, k.1, k.2) (held_more before.long before.count before.kept xs b room less before.full h)
-
-past : (long : Bool) (count : ℕ) (kept xs : List ℕ) → length kept ≡ 80 → 80 ≤ count → Held long count kept xs → 80 ≤ length xs
-past true count kept xs room full h = omega arith
-past false count kept xs room full h = omega (arith, ap length (sym (take_all count kept (omega arith)) ∙ h.1))
-
--- with no room left, there are more than 80 bytes
-pub kept_past : (before : LineBuffer) (xs : List ℕ) (b : ℕ) → length before.kept ≡ 80 → 80 ≤ before.count → Holds before xs → 80 < length (xs ++ b ∷ [])
-kept_past before xs b room full h = omega (arith, length_push xs b, past before.long before.count before.kept xs room full h)
 
 -- bytes with no byte 10 among them
 pub lines_open : (xs : List ℕ) → Without 10 xs → lines xs ≡ opened xs

@@ -1,5 +1,5 @@
 -- Fields that are read as numbers one after another: what is kept, when to stop, and how many there can be.
-use Rattle.std.proofs.Common.{◌≡◌, ℕ, suc, ◌+◌, ◌*◌, ◌<◌, ◌≤◌, eqb, List, [], ◌∷◌, ◌++◌, map, length, ℤ, pos, negsuc, sym, refl, ap, ◌∙◌, subst, append_assoc, append-nil, arith}
+use Rattle.std.proofs.Common.{◌≡◌, ℕ, suc, ◌+◌, ◌*◌, ◌<◌, ◌≤◌, eqb, List, [], ◌∷◌, ◌++◌, map, length, ℤ, pos, negsuc, sym, refl, ap, ◌∙◌, subst, append_assoc, arith}
 use lib.ListN.{length-map}
 use Rattle.std.specs.Fmt.{signed_decimal}
 use Rattle.std.specs.List.{AllByRecursion}
@@ -10,7 +10,7 @@ use Rattle.std.proofs.lemmas.Bool.{cond_both}
 use Rattle.fields.specs.Numeral.{Writes, IsNumber}
 use Rattle.fields.specs.Parts.{led, parts}
 use Rattle.fields.proofs.Cutting.{some_part}
-use Rattle.format.specs.Numbers.{sized}
+use Rattle.format.specs.Steps.{sized}
 
 -- zs are the numbers of the fields before those left
 pub record Filled (fs left : List (List ℕ)) (zs : List ℤ) : Type 0 where
@@ -33,23 +33,24 @@ all_at : (P : List ℕ → Type 0) (xs : List (List ℕ)) (y : List ℕ) (ys : L
 all_at P [] y ys h = h.0
 all_at P (x ∷ xs) y ys h = all_at P xs y ys h.1
 
-module _ (fs rest : List (List ℕ)) (zs : List ℤ) (x : List ℕ) (f : Filled fs (x ∷ rest) zs) where
+-- of the fields left, x is the first
+module _ (fs left rest : List (List ℕ)) (zs : List ℤ) (x : List ℕ) (f : Filled fs left zs) (first : left ≡ x ∷ rest) where
+  whole : map signed_decimal zs ++ x ∷ rest ≡ fs
+  whole = ap (λ l. map signed_decimal zs ++ l) (sym first) ∙ f.split
+
   pub filled_more : (z : ℤ) → Writes x z → Filled fs rest (zs ++ z ∷ [])
   filled_more z w = record {
-    split = ap (λ l. l ++ rest) (map_push signed_decimal zs z) ∙ append_assoc (map signed_decimal zs) (signed_decimal z ∷ []) rest ∙ ap (λ y. map signed_decimal zs ++ y ∷ rest) (sym w.0) ∙ f.split;
+    split = ap (λ l. l ++ rest) (map_push signed_decimal zs z) ∙ append_assoc (map signed_decimal zs) (signed_decimal z ∷ []) rest ∙ ap (λ y. map signed_decimal zs ++ y ∷ rest) (sym w.0) ∙ whole;
     numbers = subst (AllByRecursion IsNumber) (sym (map_push signed_decimal zs z)) (All-push IsNumber (map signed_decimal zs) (signed_decimal z) f.numbers (z, (refl, w.1)));
   }
 
   pub filled_stop : (IsNumber x → ⊥) → AllByRecursion IsNumber fs → ⊥
-  filled_stop none all = none (all_at IsNumber (map signed_decimal zs) x rest (subst (AllByRecursion IsNumber) (sym f.split) all))
+  filled_stop none all = none (all_at IsNumber (map signed_decimal zs) x rest (subst (AllByRecursion IsNumber) (sym whole) all))
 
   -- each number takes two bytes or more
   pub filled_room : sized fs ≤ 81 → IsNumber x → length zs < 40
   filled_room short n =
-      omega (arith, ap sized f.split, sized_append (map signed_decimal zs) (x ∷ rest), numbers_sized (map signed_decimal zs) f.numbers, some_bytes x n, length-map zs signed_decimal)
-
-pub filled_all : (fs : List (List ℕ)) (zs : List ℤ) → Filled fs [] zs → AllByRecursion IsNumber fs × (map signed_decimal zs ≡ fs)
-filled_all fs zs f = let e = sym (append-nil (map signed_decimal zs)) ∙ f.split in (subst (AllByRecursion IsNumber) e f.numbers, e)
+      omega (arith, ap sized whole, sized_append (map signed_decimal zs) (x ∷ rest), numbers_sized (map signed_decimal zs) f.numbers, some_bytes x n, length-map zs signed_decimal)
 
 -- a line's fields are as large as the line
 pub sized_parts : (sep : ℕ) (bs : List ℕ) → sized (parts sep bs) ≡ length bs + 1

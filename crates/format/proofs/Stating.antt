@@ -1,13 +1,11 @@
 -- A line that is read field by field: its word, its numbers, and what it is written with.
-use Rattle.std.proofs.Common.{◌≡◌, ℕ, ◌+◌, ◌≤◌, Bool, true, List, [], ◌∷◌, map, length, get_or, ℤ, pos, Some, None, Ok, Option, sym, refl, ap, ◌∙◌, subst, arith}
-use lib.ListN.{length-map}
+use Rattle.std.proofs.Common.{◌≡◌, ℕ, ◌≤◌, Bool, true, List, [], ◌∷◌, map, length, get_or, ℤ, pos, Some, None, Ok, Option, sym, refl, ap, ◌∙◌, subst, arith}
 use Rattle.std.specs.Fmt.{signed_decimal}
 use Rattle.fields.specs.Fields.{fields}
 use Rattle.fields.proofs.Cutting.{some_part}
 use Rattle.words.specs.Words.{WordRead}
 use Rattle.format.specs.Command.{first_field, later_fields, written}
-use Rattle.format.specs.Numbers.{sized}
-use Rattle.format.specs.Statement.{WordHanded, WordJudged}
+use Rattle.format.specs.Steps.{sized, WordHanded, WordJudged}
 use Rattle.format.proofs.Filling.{sized_parts}
 
 -- a line is its first field and the later ones
@@ -20,10 +18,6 @@ word_first spelling line before r after e h = subst (λ l. WordHanded spelling l
 
 pub short_later : (line : List ℕ) → length line ≤ 80 → sized (later_fields line) ≤ 81
 short_later line h = omega (arith, sized_parts 44 line, ap sized (first_and_later line))
-
--- the count of the fields of a line with a word and numbers
-pub count_written : {W : Type 0} (spelling : W → List ℕ) (w : W) (line : List ℕ) (zs : List ℤ) → fields line ≡ written spelling w zs → length (fields line) ≡ 1 + length zs
-count_written spelling w line zs e = omega (arith, ap length e, length-map zs signed_decimal)
 
 pub four : (xs : List ℤ) → length xs ≡ 4 → get_or xs 0 (pos 0) ∷ get_or xs 1 (pos 0) ∷ get_or xs 2 (pos 0) ∷ get_or xs 3 (pos 0) ∷ [] ≡ xs
 four [] h = absurd (omega arith)

@@ -12,7 +12,7 @@ use Rattle.words.specs.declared.keyword.CommandWord.{CommandWord}
 use Rattle.words.specs.declared.keyword.CommandWord.TheVariants as command
 use Rattle.words.specs.declared.keyword.HeaderWord.{HeaderWord}
 use Rattle.words.specs.declared.keyword.HeaderWord.TheVariants as header
-use Rattle.format.specs.Numbers.{numbers_in}
+use Rattle.rows.specs.Numbers.{numbers_in}
 use Rattle.format.specs.Seed.{WritesSeed}
 use Rattle.format.specs.declared.command.Command.{Command}
 use Rattle.format.specs.declared.command.Command.TheVariants.{Row, Strike, Restore, Check, Shuffle, Settle}
@@ -60,7 +60,7 @@ header_values Bounds = []
 
 -- what each command is written with
 abbrev pub command_word : Command → CommandWord
-command_word (Row a b c parish) = command.Row
+command_word (Row numbers) = command.Row
 command_word (Strike position) = command.Strike
 command_word (Restore position) = command.Restore
 command_word (Check positions) = command.Check
@@ -68,7 +68,7 @@ command_word (Shuffle seed) = command.Shuffle
 command_word Settle = command.Settle
 
 abbrev pub command_values : Command → List ℤ
-command_values (Row a b c parish) = a ∷ b ∷ c ∷ parish ∷ []
+command_values (Row numbers) = numbers.a ∷ numbers.b ∷ numbers.c ∷ numbers.parish ∷ []
 command_values (Strike position) = position ∷ []
 command_values (Restore position) = position ∷ []
 command_values (Check positions) = numbers_in positions

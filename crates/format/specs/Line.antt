@@ -1,5 +1,5 @@
 -- What a line buffer holds.
-use Rattle.std.specs.Prelude.{◌≡◌, ℕ, ◌+◌, ◌<◌, ◌≤◌, List, ◌∷◌, ◌++◌, length, take, drop, MatchBool, Option, Result, MatchOption, slice_set}
+use Rattle.std.specs.Prelude.{◌≡◌, ℕ, ◌<◌, ◌≤◌, List, ◌∷◌, ◌++◌, length, drop, Option, Result, MatchOption}
 use Rattle.std.specs.Borrow.{Bor}
 use Rattle.rows.specs.Judged.{Gives, Unless}
 use Rattle.rows.specs.declared.refusal.Refusal.{Refusal}
@@ -10,12 +10,7 @@ use Rattle.format.specs.declared.line.LineBuffer.{LineBuffer}
 
 -- the bytes that came are xs: they are kept if there are at most 80, else only that there were more is known
 abbrev pub Holds : LineBuffer → List ℕ → Type 0
-Holds b xs = MatchBool b.long (80 < length xs) ((length xs ≤ 80) × (take b.count b.kept ≡ xs))
-
--- a byte is stored after the others
-abbrev pub Kept : LineBuffer → ℕ → LineBuffer → Type 0
-Kept before byte after =
-    (after.kept ≡ slice_set before.kept before.count byte) × (after.count ≡ before.count + 1) × (after.long ≡ before.long)
+Holds b xs = MatchOption b.kept (80 < length xs) (λ kept. (length xs ≤ 80) × (kept.items ≡ xs))
 
 -- the line xs, unless it is too long
 abbrev pub LineJudged : List ℕ → Result (Bor (List ℕ)) Refusal → Type 0

@@ -2,6 +2,7 @@
 
 pub mod command;
 pub mod line;
-pub mod numbers;
+pub mod narrowing;
+pub mod statement;
 #[cfg(test)]
 mod tests;

@@ -1,4 +1,4 @@
-use crate::command::{Command, Header, read_command, read_header};
+use crate::command::{Command, Header, RowNumbers, read_command, read_header};
 use crate::line::LineBuffer;
 use rows::refusal::Refusal;
 use std::test::Fail;
@@ -16,12 +16,12 @@ fn commands(rt: HostRuntime) {
     assert!(rt;
         matches!(
             read_command(b"row,1,-2,3,4"),
-            Ok(Command::Row {
+            Ok(Command::Row(RowNumbers {
                 a: 1,
                 b: -2,
                 c: 3,
                 parish: 4
-            })
+            }))
         )
     );
     assert!(rt;

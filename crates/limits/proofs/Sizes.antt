@@ -7,7 +7,7 @@ use lib.Signed.{le_z}
 use Rattle.algebra.specs.Small.{Small}
 use Rattle.algebra.proofs.Order.{le_z_in, le_z_out}
 use Rattle.algebra.proofs.Computed.{Val, small_by, small_more, val_small}
-use Rattle.limits.specs.Plane.{within}
+use Rattle.rows.specs.Range.{within}
 
 pub within_small : (n : ℕ) (z : ℤ) → within n z ≡ true → Small n z
 within_small n z e =

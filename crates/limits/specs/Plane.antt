@@ -1,14 +1,11 @@
 -- The cheapest point of a plane under limits: rivals, sizes, value.
-use Rattle.std.specs.Prelude.{ℕ, Bool, not, ◌&&◌, List, [], ◌∷◌, ℤ, pos, ◌*ℤ◌, neg_ℤ, ◌≤ℤ◌, ◌==◌, int_le, unsigned_abs}
+use Rattle.std.specs.Prelude.{Bool, not, ◌&&◌, List, [], ◌∷◌, ℤ, pos, ◌*ℤ◌, neg_ℤ, ◌≤ℤ◌, ◌==◌, unsigned_abs}
+use Rattle.rows.specs.Range.{within}
 use Rattle.lptype.specs.Meaning.{Meaning}
 use Rattle.algebra.specs.Point.{Point}
 use Rattle.limits.specs.Forms.{Form, no_more, Alike}
 use Rattle.limits.specs.Crossings.{Keeps}
 use Rattle.limits.specs.Least.{least_crossing}
-
--- within n of 0
-abbrev pub within : ℕ → ℤ → Bool
-within n z = int_le (neg_ℤ (pos n)) z && int_le z (pos n)
 
 -- z is 0
 abbrev pub is_zero : ℤ → Bool

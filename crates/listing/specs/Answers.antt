@@ -27,8 +27,8 @@ point_numbers line x y d = decimal line ++ (codes "," ++ (signed_decimal x ++ (c
 
 abbrev pub disc_shown : DiscAnswer → ℕ → List ℕ
 disc_shown disc.Empty line = empty_line line
-disc_shown (disc.Centre x y d) line = codes "disc," ++ point_numbers line x y d
+disc_shown (disc.Centre z) line = codes "disc," ++ point_numbers line z.x z.y z.d
 
 abbrev pub plane_shown : PlaneAnswer → ℕ → List ℕ
 plane_shown plane.NoPoint line = codes "none," ++ (decimal line ++ (10 ∷ []))
-plane_shown (plane.Point x y d) line = codes "plane," ++ point_numbers line x y d
+plane_shown (plane.Point z) line = codes "plane," ++ point_numbers line z.x z.y z.d

@@ -1,8 +1,8 @@
 -- What a command of a file does to a register.
-use Rattle.std.specs.Prelude.{◌≡◌, ℕ, ◌<◌, ◌≤◌, true, cond, ◌&&◌, List, length, ℤ, pos, negsuc, ◌≤ℤ◌, is_ok, Ok, Err, Decides, Result, int_le, unsigned_abs}
+use Rattle.std.specs.Prelude.{◌≡◌, ◌<◌, ◌≤◌, true, List, length, ℤ, pos, ◌≤ℤ◌, is_ok, Ok, Err, Decides, Result}
 use Rattle.rows.specs.Judged.{Gives, Unless}
+use Rattle.rows.specs.Numbers.{numbers_in}
 use Rattle.rows.specs.Rising.{Rising}
-use Rattle.rows.specs.declared.row.Constraint.{Constraint}
 use Rattle.rows.specs.declared.row.Row.{Row}
 use Rattle.rows.specs.declared.refusal.Refusal.{Refusal}
 use Rattle.rows.specs.declared.refusal.Refusal.TheVariants.{NotAdmitted, ParishRange, TableFull, TooManyPositions, NotRising}
@@ -11,7 +11,8 @@ use Rattle.checking.specs.Checking.{CheckAnswer, BasisOfOpen}
 use Rattle.walk.specs.Shuffling.{shuffled}
 use Rattle.register.specs.Days.{with_order}
 use Rattle.register.specs.State.{State, Became, entered, StrikeAnswer, StruckAt, RestoreAnswer, restored}
-use Rattle.format.specs.Numbers.{numbers_in}
+use Rattle.format.specs.Narrow.{AllNarrow, constraint_of}
+use Rattle.format.specs.declared.command.RowNumbers.{RowNumbers}
 use Rattle.format.specs.declared.command.Command.{Command}
 use Rattle.format.specs.declared.command.Command.TheVariants as command
 use Rattle.listing.specs.declared.obeying.Outcome.{Outcome}
@@ -24,25 +25,11 @@ said o (Err e) = Err e
 
 -- ---- a row of four numbers
 
--- a number of at most 32 bits
-abbrev pub Narrow : ℤ → Type 0
-Narrow z = (negsuc 2147483647 ≤ℤ z) × (z ≤ℤ pos 2147483647)
-
-abbrev pub AllNarrow : ℤ → ℤ → ℤ → Type 0
-AllNarrow a b c = Narrow a × (Narrow b × Narrow c)
-
--- a number as a parish; 0, which is none, where it does not fit a byte
-abbrev pub narrowed : ℤ → ℕ
-narrowed z = cond (int_le (pos 0) z && int_le z (pos 255)) (unsigned_abs z) 0
-
-abbrev pub constraint_of : ℤ → ℤ → ℤ → ℤ → Constraint
-constraint_of a b c parish = record { a = a; b = b; c = c; parish = narrowed parish }
-
 -- a, b or c beyond 32 bits is refused like a row that is not admitted
-abbrev pub RowAnswer : Meaning → State → ℤ → ℤ → ℤ → ℤ → Result (Unit {0}) Refusal → Type 0
-RowAnswer m s a b c parish =
-    Unless NotAdmitted (AllNarrow a b c × (m.admitted a b c ≡ true))
-    (Unless ParishRange ((pos 1 ≤ℤ parish) × (parish ≤ℤ pos 16))
+abbrev pub RowAnswer : Meaning → State → RowNumbers → Result (Unit {0}) Refusal → Type 0
+RowAnswer m s n =
+    Unless NotAdmitted (AllNarrow n × (m.admitted n.a n.b n.c ≡ true))
+    (Unless ParishRange ((pos 1 ≤ℤ n.parish) × (n.parish ≤ℤ pos 16))
     (Unless TableFull (length s.rows < 256) (Gives (λ _. Unit {0}))))
 
 -- ---- a list of numbers
@@ -61,7 +48,7 @@ pub record HandedBasis (m : Meaning) (rows : List Row) (xs : List ℤ) : Type 0 
 
 -- the command is answered as the call on the register is, which makes t of s; a settle is left to the register's owner
 abbrev pub CommandAnswer : Meaning → State → Command → Result Outcome Refusal → State → Type 0
-CommandAnswer m s (command.Row a b c parish) r t = (q : Result (Unit {0}) Refusal) × (r ≡ said Silent q) × RowAnswer m s a b c parish q × Became q s (λ u. u ≡ entered (constraint_of a b c parish) s) t
+CommandAnswer m s (command.Row n) r t = (q : Result (Unit {0}) Refusal) × (r ≡ said Silent q) × RowAnswer m s n q × Became q s (λ u. u ≡ entered (constraint_of n) s) t
 CommandAnswer m s (command.Strike p) r t = (q : Result (Unit {0}) Refusal) × (r ≡ said Silent q) × StrikeAnswer s p q × Became q s (StruckAt p s) t
 CommandAnswer m s (command.Restore p) r t = (q : Result (Unit {0}) Refusal) × (r ≡ said Silent q) × RestoreAnswer s p q × Became q s (λ u. u ≡ restored p s) t
 CommandAnswer m s (command.Check numbers) r t = (q : Result (Unit {0}) Refusal) × (r ≡ said Passed q) × HandedAnswer m s.rows (numbers_in numbers) q × Decides (is_ok q) (HandedBasis m s.rows (numbers_in numbers)) × (t ≡ s)

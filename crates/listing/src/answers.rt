@@ -3,10 +3,12 @@ ghost use Rattle.listing.specs.Answers.{bounds_shown, disc_shown, plane_shown};
 
 use bounds::answer::BoundsAnswer;
 use disc::answer::DiscAnswer;
+use lowest::reduce::RationalPoint;
 use plane::answer::PlaneAnswer;
 use std::alloc::{AllocError, Global};
 
-// An answer that has a line in a listing.
+// An answer that has a line in a listing. No Display: the number of the input line stands in it, after the word.
+// The heap and that number are two parameters: a Printer prints answers, so an answer that took one would be no plainer.
 pub trait AnswerLine {
     // The bytes of that line, for an input line of this number.
     ghost shown: { Self → ℕ → List ℕ };
@@ -37,7 +39,9 @@ impl AnswerLine for DiscAnswer {
     fn line(&self, heap: Global, line: u64) -> Result<String, AllocError> {
         match *self {
             DiscAnswer::Empty => format!(in heap; "empty,{line}\n"),
-            DiscAnswer::Centre { x, y, d } => format!(in heap; "disc,{line},{x},{y},{d}\n"),
+            DiscAnswer::Centre(RationalPoint { x, y, d }) => {
+                format!(in heap; "disc,{line},{x},{y},{d}\n")
+            }
         }
     }
 }
@@ -48,7 +52,9 @@ impl AnswerLine for PlaneAnswer {
     fn line(&self, heap: Global, line: u64) -> Result<String, AllocError> {
         match *self {
             PlaneAnswer::NoPoint => format!(in heap; "none,{line}\n"),
-            PlaneAnswer::Point { x, y, d } => format!(in heap; "plane,{line},{x},{y},{d}\n"),
+            PlaneAnswer::Point(RationalPoint { x, y, d }) => {
+                format!(in heap; "plane,{line},{x},{y},{d}\n")
+            }
         }
     }
 }

@@ -16,20 +16,14 @@ use rows::refusal::Refusal;
 pub fn first_line(line: &LineBuffer) -> Result<Header, Refusal>
     ensures { (xs : List ℕ) → Holds line.now xs → HeaderRead xs result }
 {
-    match line.line() {
-        Ok(bytes) => read_header(bytes),
-        Err(long) => Err(long),
-    }
+    read_header(line.line()?)
 }
 
-// What a later line of a file says.
+// What a later line of a file says. One function for both, told the reader, is no plainer.
 fn later_line(line: &LineBuffer) -> Result<Command, Refusal>
     ensures { (xs : List ℕ) → Holds line.now xs → CommandRead xs result }
 {
-    match line.line() {
-        Ok(bytes) => read_command(bytes),
-        Err(too_long) => Err(too_long),
-    }
+    read_command(line.line()?)
 }
 
 // Carries out a later line of a file.
@@ -42,8 +36,5 @@ pub fn obey_line<P: Problem>(
     ensures problem { register.new.problem ≡ register.old.problem }
     ensures good { Good (P.meaning register.new.problem) (state_of register.new) }
 {
-    match later_line(line) {
-        Ok(command) => obey(register, command),
-        Err(refusal) => Err(refusal),
-    }
+    obey(register, later_line(line)?)
 }

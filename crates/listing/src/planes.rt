@@ -1,6 +1,6 @@
 ghost use Rattle.plane.specs.Made.{PlaneMade};
 
-use crate::obeying::narrow;
+use format::narrowing::narrow;
 use plane::problem::Plane;
 use rows::refusal::Refusal;
 
@@ -8,11 +8,5 @@ use rows::refusal::Refusal;
 pub fn plane_of(p: i64, q: i64) -> Result<Plane, Refusal>
     ensures { PlaneMade p q result }
 {
-    let Some(p) = narrow(p) else {
-        return Err(Refusal::NotAdmitted);
-    };
-    let Some(q) = narrow(q) else {
-        return Err(Refusal::NotAdmitted);
-    };
-    Plane::new(p, q)
+    Plane::new(narrow(p)?, narrow(q)?)
 }

@@ -1,6 +1,7 @@
 ghost use Rattle.std.specs.Prelude.{◌≡◌, IfOk, string_bytes};
 ghost use Rattle.register.specs.Calls.{settled_state};
 ghost use Rattle.register.specs.State.{Good};
+ghost use Rattle.rows.specs.Number.{number_of};
 ghost use Rattle.listing.specs.Settlement.{Printed};
 ghost use Rattle.listing.specs.Text.{reported, refused_line, passes_line, listed, basis_line, walk_line};
 
@@ -10,35 +11,13 @@ use lptype::problem::Problem;
 use register::settled::Settled;
 use rows::refusal::Refusal;
 use std::alloc::{AllocError, Global};
+use walk::walking::Counts;
 
-// The line for a refusal of this number.
-fn refused(heap: Global, line: u64, number: u8) -> Result<String, AllocError>
-    ensures { IfOk result (λ s. string_bytes s ≡ refused_line line number) }
-{
-    format!(in heap; "refused,{line},{number}\n")
-}
-
-// The line for a check that passes.
-fn passes(heap: Global, line: u64) -> Result<String, AllocError>
-    ensures { IfOk result (λ s. string_bytes s ≡ passes_line line) }
-{
-    format!(in heap; "passes,{line}\n")
-}
-
-// What is printed for the outcome of an input line.
-pub fn report(
+// Makes the text for one input line, whose number it holds.
+#[derive(Clone, Copy)]
+pub struct Printer {
     heap: Global,
     line: u64,
-    outcome: Result<Outcome, Refusal>,
-) -> Result<String, AllocError>
-    ensures { IfOk result (λ s. string_bytes s ≡ reported line outcome) }
-{
-    match outcome {
-        Err(refusal) => refused(heap, line, refusal.number()),
-        Ok(Outcome::Passed) => passes(heap, line),
-        Ok(Outcome::Silent) => Ok(String::new(heap)),
-        Ok(Outcome::Settle) => Ok(String::new(heap)),
-    }
 }
 
 // Each position, with a comma before it.
@@ -53,36 +32,71 @@ fn listed(heap: Global, list: &[i64]) -> Result<String, AllocError>
     Ok(text)
 }
 
-// The line for a basis.
-fn basis(heap: Global, line: u64, list: &[i64]) -> Result<String, AllocError>
-    ensures { IfOk result (λ s. string_bytes s ≡ basis_line line list.now) }
-{
-    let positions = listed(heap, list)?;
-    let count = list.len();
-    format!(in heap; "basis,{line},{count}{positions}\n")
-}
+impl Printer {
+    pub fn new(heap: Global, line: u64) -> Printer
+        ensures { result.line ≡ line }
+    {
+        Printer { heap, line }
+    }
 
-// The line for the counts of a walk.
-fn counted(heap: Global, line: u64, tests: u64, exchanges: u64) -> Result<String, AllocError>
-    ensures { IfOk result (λ s. string_bytes s ≡ walk_line line tests exchanges) }
-{
-    format!(in heap; "walk,{line},{tests},{exchanges}\n")
-}
+    // The line for a refusal.
+    fn refused(self, refusal: Refusal) -> Result<String, AllocError>
+        ensures { IfOk result (λ s. string_bytes s ≡ refused_line self.line (number_of refusal)) }
+    {
+        let line = self.line;
+        let number = u8::from(refusal);
+        format!(in self.heap; "refused,{line},{number}\n")
+    }
 
-// What is printed for a settled register.
-pub fn settlement<P: Problem>(
-    heap: Global,
-    line: u64,
-    register: &Settled<P>,
-) -> Result<String, AllocError>
-where
-    P::Answer: AnswerLine + Drop,
-    requires { Good (P.meaning register.now.register.problem) (settled_state register.now) }
-    ensures { IfOk result (λ s. Printed (P.meaning register.now.register.problem) (P.Problem.reads register.now.register.problem) (λ a. P.Answer.AnswerLine.shown a line) line (settled_state register.now) register.now.counts.tests register.now.counts.exchanges (string_bytes s)) }
-{
-    let first = basis(heap, line, register.basis().as_slice())?;
-    let answer = register.answer().line(heap, line)?;
-    let counts = register.counts();
-    let last = counted(heap, line, counts.tests(), counts.exchanges())?;
-    format!(in heap; "{first}{answer}{last}")
+    // The line for a check that passes.
+    fn passes(self) -> Result<String, AllocError>
+        ensures { IfOk result (λ s. string_bytes s ≡ passes_line self.line) }
+    {
+        let line = self.line;
+        format!(in self.heap; "passes,{line}\n")
+    }
+
+    // What is printed for the outcome of the line.
+    pub fn report(self, outcome: Result<Outcome, Refusal>) -> Result<String, AllocError>
+        ensures { IfOk result (λ s. string_bytes s ≡ reported self.line outcome) }
+    {
+        match outcome {
+            Err(refusal) => self.refused(refusal),
+            Ok(Outcome::Passed) => self.passes(),
+            Ok(Outcome::Silent | Outcome::Settle) => Ok(String::new(self.heap)),
+        }
+    }
+
+    // The line for a basis.
+    fn basis(self, list: &[i64]) -> Result<String, AllocError>
+        ensures { IfOk result (λ s. string_bytes s ≡ basis_line self.line list.now) }
+    {
+        let line = self.line;
+        let positions = listed(self.heap, list)?;
+        let count = list.len();
+        format!(in self.heap; "basis,{line},{count}{positions}\n")
+    }
+
+    // The line for the counts of a walk.
+    fn walk(self, counts: Counts) -> Result<String, AllocError>
+        ensures { IfOk result (λ s. string_bytes s ≡ walk_line self.line counts.tests counts.exchanges) }
+    {
+        let line = self.line;
+        let tests = counts.tests();
+        let exchanges = counts.exchanges();
+        format!(in self.heap; "walk,{line},{tests},{exchanges}\n")
+    }
+
+    // What is printed for a settled register.
+    pub fn settlement<P: Problem>(self, register: &Settled<P>) -> Result<String, AllocError>
+    where
+        P::Answer: AnswerLine + Drop,
+        requires { Good (P.meaning register.now.register.problem) (settled_state register.now) }
+        ensures { IfOk result (λ s. Printed (P.meaning register.now.register.problem) (P.Problem.reads register.now.register.problem) (λ a. P.Answer.AnswerLine.shown a self.line) self.line (settled_state register.now) register.now.counts.tests register.now.counts.exchanges (string_bytes s)) }
+    {
+        let first = self.basis(register.basis().as_slice())?;
+        let answer = register.answer().line(self.heap, self.line)?;
+        let last = self.walk(register.counts())?;
+        format!(in self.heap; "{first}{answer}{last}")
+    }
 }

@@ -9,7 +9,8 @@ use Rattle.algebra.proofs.Ring.{◌⊕◌, ◌⊖◌, ◌⊗◌, ⊝, ◌≐◌,
 use Rattle.algebra.proofs.Order.{eq_from2}
 use Rattle.algebra.proofs.Signs.{pos_of}
 use Rattle.algebra.proofs.Computed.{abs_mul}
-use Rattle.lowest.specs.Reduced.{Gcd, Divisor, LowestTerms}
+use Rattle.std.specs.Int.{IsGcd}
+use Rattle.lowest.specs.Reduced.{Divisor, LowestTerms}
 
 -- the quotient by a divisor
 
@@ -31,16 +32,16 @@ abs_pos d h = omega (arith, ints, abs_is d)
 pos_lift : (g : ℕ) → 0 < g → pos 0 <ℤ pos g
 pos_lift g h = omega (arith, ints)
 
-pub divisor_small : (d : ℤ) (m g : ℕ) → pos 0 <ℤ d → Gcd m (nat_abs d) g → g ≤ nat_abs d
-divisor_small d m g p j = le_of_dvd (abs_pos d p) j.right
+pub divisor_small : (d : ℤ) (m g : ℕ) → pos 0 <ℤ d → IsGcd m (nat_abs d) g → g ≤ nat_abs d
+divisor_small d m g p j = le_of_dvd (abs_pos d p) j.1
 
-pub divisor_of : (x y d : ℤ) (m g : ℕ) → pos 0 <ℤ d → Gcd (nat_abs x) (nat_abs y) m → Gcd m (nat_abs d) g → Divisor x y d (pos g)
+pub divisor_of : (x y d : ℤ) (m g : ℕ) → pos 0 <ℤ d → IsGcd (nat_abs x) (nat_abs y) m → IsGcd m (nat_abs d) g → Divisor x y d (pos g)
 divisor_of x y d m g p i j = record {
-  above = pos_lift g (pos_of_dvd_of_pos j.right (abs_pos d p));
-  of_x = dvd_trans g j.left i.left;
-  of_y = dvd_trans g j.left i.right;
-  of_d = j.right;
-  greatest = λ k hx hy hd. j.greatest k (i.greatest k hx hy) hd;
+  above = pos_lift g (pos_of_dvd_of_pos j.1 (abs_pos d p));
+  of_x = dvd_trans g j.0 i.0;
+  of_y = dvd_trans g j.0 i.1;
+  of_d = j.1;
+  greatest = λ k hx hy hd. j.2 k (i.2 k hx hy) hd;
 }
 
 -- a common divisor of the quotients is 1

@@ -2,12 +2,6 @@
 use Rattle.std.specs.Prelude.{◌≡◌, ℕ, ◌≤◌, ℤ, pos, ◌*ℤ◌, ◌<ℤ◌, unsigned_abs}
 use Rattle.std.specs.Int.{◌∣◌}
 
--- g is the greatest common divisor of a and b: every common divisor divides it
-pub record Gcd (a b g : ℕ) : Type 0 where
-  pub left : g ∣ a
-  pub right : g ∣ b
-  pub greatest : (k : ℕ) → k ∣ a → k ∣ b → k ∣ g
-
 -- g is above 0 and the greatest common divisor of the three numbers
 pub record Divisor (x y d g : ℤ) : Type 0 where
   pub above : pos 0 <ℤ g

@@ -1,9 +1,18 @@
-ghost use Rattle.std.specs.Prelude.{◌≡◌, pos, ◌<ℤ◌, int_div};
-ghost use Rattle.lowest.specs.Reduced.{Gcd, Divisor, LowestTerms};
+ghost use Rattle.std.specs.Prelude.{pos, ◌<ℤ◌};
+ghost use Rattle.std.specs.Int.{IsGcd};
+ghost use Rattle.lowest.specs.Reduced.{Divisor, LowestTerms};
+
+// The point x/d, y/d.
+#[derive(Clone, Copy)]
+pub struct RationalPoint {
+    pub x: i64,
+    pub y: i64,
+    pub d: i64,
+}
 
 // The greatest common divisor, by Euclid's algorithm.
 fn gcd(a: u64, b: u64) -> u64
-    ensures { Gcd a b result }
+    ensures { IsGcd a b result }
 {
     let mut large = a;
     let mut small = b;
@@ -15,14 +24,6 @@ fn gcd(a: u64, b: u64) -> u64
     large
 }
 
-// One number over another.
-fn quotient(n: i64, g: i64) -> i64
-    requires { pos 0 <ℤ g }
-    ensures { result ≡ int_div n g }
-{
-    n / g
-}
-
 // The greatest common divisor of three numbers, the last above 0.
 fn divisor(x: i64, y: i64, d: i64) -> i64
     requires { pos 0 <ℤ d }
@@ -32,10 +33,14 @@ fn divisor(x: i64, y: i64, d: i64) -> i64
 }
 
 // The point x/d, y/d in lowest terms.
-pub fn reduce(x: i64, y: i64, d: i64) -> (i64, i64, i64)
+pub fn reduce(x: i64, y: i64, d: i64) -> RationalPoint
     requires { pos 0 <ℤ d }
-    ensures { LowestTerms x y d result.0 result.1 result.2 }
+    ensures { LowestTerms x y d result.x result.y result.d }
 {
     let g = divisor(x, y, d);
-    (quotient(x, g), quotient(y, g), quotient(d, g))
+    RationalPoint {
+        x: x / g,
+        y: y / g,
+        d: d / g,
+    }
 }

@@ -1,5 +1,6 @@
 -- The search for a basis: where a row violates a list that stands, some mask serves, and what serves is an exchange.
-use Rattle.std.proofs.Common.{◌≡◌, ℕ, ◌^◌, ◌<◌, ◌≤◌, true, false, List, ◌∷◌, length, ℤ, Ok, sym, refl, ap, ◌∙◌, subst, inl, inr, ⊎_elim, arith}
+use Rattle.std.proofs.Common.{◌≡◌, ℕ, ◌^◌, ◌<◌, ◌≤◌, true, false, List, ◌∷◌, length, ℤ, Some, None, Ok, Option, sym, refl, ap, ◌∙◌, subst, inl, inr, ⊎_elim, arith}
+use Rattle.std.specs.Option.{unwrap_or}
 use Rattle.std.proofs.lemmas.List.{length-map}
 use Rattle.std.proofs.lemmas.Bool.{false≢true}
 use Rattle.rows.specs.List.{positions}
@@ -15,7 +16,7 @@ use Rattle.lptype.specs.Meaning.{Meaning, In, Within, Raises, Quiet, SameValue, 
 use Rattle.lptype.specs.Laws.{Laws}
 use Rattle.lptype.specs.Places.{AllFine}
 use Rattle.lptype.specs.Questions.{Exchanged, ViolatesAnswer}
-use Rattle.lptype.specs.Search.{QuietAt, Qualifies, Serves, BasisAnswer}
+use Rattle.lptype.specs.Search.{QuietAt, Qualifies, Serves, FirstServing, BasisAnswer}
 use Rattle.lptype.proofs.Derived.{whole}
 use Rattle.lptype.proofs.Inside.{all_in, all_from_in, in_unmap, within_map, within_inserted, inserted_within, sublist_within}
 use Rattle.lptype.proofs.Naming.{fine_within}
@@ -94,15 +95,20 @@ module _ (m : Meaning) (l : Laws m) (rows : List Row) where
 
 -- the answer, from what violates and the search answered
 module _ (m : Meaning) (l : Laws m) (rows : List Row) (ps : List ℤ) (h : ℤ) where
-  pub answer_found : (p : Positions) (pool : List ℤ) (k : ℕ) → ViolatesAnswer m rows ps h (Ok true) → pool ≡ inserted h ps → Serves m rows pool k → positions p ≡ chosen pool k → BasisAnswer m rows ps h (Ok p)
+  answer_found : (p : Positions) (pool : List ℤ) (k : ℕ) → ViolatesAnswer m rows ps h (Ok true) → pool ≡ inserted h ps → Serves m rows pool k → positions p ≡ chosen pool k → BasisAnswer m rows ps h (Ok p)
   answer_found p pool k v e s f =
       let x = exchanged m l rows ps h (v.0, v.1.0) k (v.1.1.1.0 refl) (subst (λ q. Serves m rows q k) e s) in
       (v.0, (v.1.0, (v.1.1.0, subst (Exchanged m rows ps h) (sym (f ∙ ap (λ q. chosen q k) e)) x)))
 
-  pub answer_none : (pool : List ℤ) → Rising ps (length ps) → ViolatesAnswer m rows ps h (Ok true) → pool ≡ inserted h ps → ((k : ℕ) → k < 2 ^ length pool → Serves m rows pool k → ⊥) → ⊥
+  answer_none : (pool : List ℤ) → Rising ps (length ps) → ViolatesAnswer m rows ps h (Ok true) → pool ≡ inserted h ps → ((k : ℕ) → k < 2 ^ length pool → Serves m rows pool k → ⊥) → ⊥
   answer_none pool r v e n =
       let s = some_serves m l rows ps h (v.0, v.1.0) r (v.1.1.1.0 refl) in
       subst (λ q. (k : ℕ) → k < 2 ^ length q → Serves m rows q k → ⊥) e n s.0 s.1 s.2
+
+  -- what the search gives, or else the list itself: the search gives something
+  pub answer_searched : (p : Positions) (pool : List ℤ) (r : Option Positions) → Rising ps (length ps) → ViolatesAnswer m rows ps h (Ok true) → pool ≡ inserted h ps → FirstServing m rows pool r → BasisAnswer m rows ps h (Ok (unwrap_or r p))
+  answer_searched p pool (Some q) r v e s = answer_found q pool s.0 v e s.1 s.2
+  answer_searched p pool None r v e s = absurd (answer_none pool r v e s)
 
 -- a list that h does not violate stays
 pub answer_kept : (m : Meaning) (l : Laws m) (rows : List Row) (p : Positions) (h : ℤ) → ViolatesAnswer m rows (positions p) h (Ok false) → BasisAnswer m rows (positions p) h (Ok p)

@@ -42,7 +42,10 @@ abbrev pub Best : (m : Meaning) → List Constraint → Option m.Rival → Type 
 Best m F None = m.value F ≡ top
 Best m F (Some r) = KeepsAll m r F × Equal m.same (finite (m.size r)) (m.value F)
 
--- reads says which rivals, or none, an answer may stand for
+-- the answer stands for a best rival for F, or for none; reads says which rivals, or none, an answer may stand for
+abbrev pub ReadsBest : (m : Meaning) {A : Type 0} → (A → Option m.Rival → Type 0) → List Constraint → A → Type 0
+ReadsBest m reads F a = (o : Option m.Rival) × reads a o × Best m F o
+
 abbrev pub AnswerAnswer : (m : Meaning) {A : Type 0} → (A → Option m.Rival → Type 0) → List Row → List ℤ → Result A Refusal → Type 0
 AnswerAnswer m reads rows ps =
-    Judged m rows ps (Unless NotStanding (Stands m (picked rows ps)) (Gives (λ a. (o : Option m.Rival) × reads a o × Best m (picked rows ps) o)))
+    Judged m rows ps (Unless NotStanding (Stands m (picked rows ps)) (Gives (ReadsBest m reads (picked rows ps))))

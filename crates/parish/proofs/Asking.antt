@@ -1,18 +1,12 @@
 -- What a parish layer answers, from what it asks of the problem below.
-use Rattle.std.proofs.Common.{◌≡◌, ℕ, Bool, ◌↔◌, List, [], ◌∷◌, ◌++◌, ℤ, Some, None, Decides, Option, Result, sym, ap, ◌∙◌, subst, inl, inr, ⊎_elim}
+use Rattle.std.proofs.Common.{◌≡◌, ℕ, ◌↔◌, List, [], ◌∷◌, ◌++◌, Some, None, Option, sym, ap, ◌∙◌, subst, inl, inr, ⊎_elim}
 use Rattle.std.proofs.lemmas.Bool.{cases_eq}
-use Rattle.std.proofs.lemmas.Bool.Decides.{Decides-like}
-use Rattle.rows.specs.Row.{Named, at, picked}
 use Rattle.rows.specs.declared.row.Constraint.{Constraint}
-use Rattle.rows.specs.declared.row.Row.{Row}
-use Rattle.rows.specs.declared.refusal.Refusal.{Refusal}
 use Rattle.lptype.specs.Meaning.{Meaning, In, Raises, Stands}
 use Rattle.lptype.specs.Laws.{Laws}
-use Rattle.lptype.specs.Questions.{Best, StandsAnswer, ViolatesAnswer, AnswerAnswer}
+use Rattle.lptype.specs.Questions.{Best, ReadsBest}
 use Rattle.lptype.proofs.Inside.{all_from_in, all_within, front_between}
 use Rattle.parish.specs.Layer.{of_parish, over}
-use Rattle.parish.specs.Inside.{OfParish, AllOfParish, Inside, StandsInside, ViolatesInside, AnswerInside}
-use Rattle.parish.proofs.Judging.{answered_map, standing_map}
 use Rattle.parish.specs.Kept.{AllOf, here, away, kept_all, kept_without}
 use Rattle.parish.specs.Layers.{not_below_itself}
 
@@ -20,15 +14,6 @@ split : (F : List Constraint) (x : Constraint) → In x F → (xs : List Constra
 split [] x i = absurd i
 split (y ∷ F) x (inl e) = ([], F, ap (λ z. z ∷ F) (sym e))
 split (y ∷ F) x (inr i) = let s = split F x i in (y ∷ s.0, s.1, ap (λ k. y ∷ k) s.2)
-
--- positions that have rows: each row is of the parish
-all_places : (g : ℕ) (rows : List Row) (ps : List ℤ) → Named rows ps → AllOf g (picked rows ps) → AllOfParish g rows ps
-all_places g rows [] n a = tt
-all_places g rows (p ∷ ps) n a = ((n.0, a.0), all_places g rows ps n.1 a.1)
-
-all_rows : (g : ℕ) (rows : List Row) (ps : List ℤ) → AllOfParish g rows ps → AllOf g (picked rows ps)
-all_rows g rows [] a = tt
-all_rows g rows (p ∷ ps) a = (a.0.1, all_rows g rows ps a.1)
 
 module _ (m : Meaning) (l : Laws m) (g : ℕ) where
   -- rows that stand in the layer are all of the parish
@@ -65,30 +50,16 @@ module _ (m : Meaning) (l : Laws m) (g : ℕ) where
     best_over None b = rw (kept_all g F a) b
     best_over (Some r) b = ((λ x i _. b.0 x i), rw (kept_all g F a) b.1)
 
-  module _ (rows : List Row) (ps : List ℤ) where
-    -- rows stand in the layer exactly where they stand below and are all of the parish
-    inside_stands : Named rows ps → Inside m g rows ps ↔ Stands (over m g) (picked rows ps)
-    inside_stands n = (
-      (λ i. (stands_over (picked rows ps) (all_rows g rows ps i.1)).0 i.0),
-      (λ s. let a = all_standing (picked rows ps) s in ((stands_over (picked rows ps) a).1 s, all_places g rows ps n a)),
-    )
+  -- rows stand in the layer exactly where they are all of the parish and stand below
+  pub inside_stands : (F : List Constraint) → (AllOf g F × Stands m F) ↔ Stands (over m g) F
+  inside_stands F = (
+    (λ i. (stands_over F i.0).0 i.1),
+    (λ s. let a = all_standing F s in (a, (stands_over F a).1 s)),
+  )
 
-    pub stands_answer : (r : Result Bool Refusal) → StandsInside m g rows ps r → StandsAnswer (over m g) rows ps r
-    stands_answer r = answered_map m rows ps r
-        (λ b. Decides b (Inside m g rows ps)) (λ b. Decides b (Stands (over m g) (picked rows ps)))
-        (λ f b. Decides-like b (inside_stands f.0).0 (inside_stands f.0).1)
+  module _ (F : List Constraint) (s : Stands (over m g) F) where
+    pub inside_raises : (h : Constraint) → ((h.parish ≡ g) × Raises m F h) ↔ Raises (over m g) F h
+    inside_raises h = raises_over F (all_standing F s) h
 
-    pub violates_answer : (h : ℤ) (r : Result Bool Refusal) → ViolatesInside m g rows ps h r → ViolatesAnswer (over m g) rows ps h r
-    violates_answer h r = standing_map m rows (h ∷ ps) r
-        (Inside m g rows ps) (Stands (over m g) (picked rows ps))
-        (λ b. Decides b (OfParish g rows h × Raises m (picked rows ps) (at rows h))) (λ b. Decides b (Raises (over m g) (picked rows ps) (at rows h)))
-        (λ f. inside_stands f.0.1)
-        (λ f s b. let e = raises_over (picked rows ps) (all_rows g rows ps s.1) (at rows h) in
-        Decides-like b (λ p. e.0 (p.0.1, p.1)) (λ p. ((f.0.0, (e.1 p).0), (e.1 p).1)))
-
-    pub answer_answer : {A : Type 0} (reads : A → Option m.Rival → Type 0) (r : Result A Refusal) → AnswerInside m reads g rows ps r → AnswerAnswer (over m g) reads rows ps r
-    answer_answer reads r = standing_map m rows ps r
-        (Inside m g rows ps) (Stands (over m g) (picked rows ps))
-        (λ a. (o : Option m.Rival) × reads a o × Best m (picked rows ps) o) (λ a. (o : Option m.Rival) × reads a o × Best (over m g) (picked rows ps) o)
-        (λ f. inside_stands f.0)
-        (λ _ s a b. (b.0, b.1, best_over (picked rows ps) (all_rows g rows ps s.1) b.0 b.2))
+    pub inside_best : {A : Type 0} (reads : A → Option m.Rival → Type 0) (k : A) → ReadsBest m reads F k → ReadsBest (over m g) reads F k
+    inside_best reads k b = (b.0, b.1, best_over F (all_standing F s) b.0 b.2)

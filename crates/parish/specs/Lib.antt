@@ -1,5 +1,4 @@
 pub mod Layer
-pub mod Inside
 pub mod Making
 pub mod Layering
 pub mod Kept

@@ -1,4 +1,4 @@
-mod inside;
+mod counting;
 mod problem;
 
 ghost use Rattle.std.specs.Prelude.{◌≡◌};

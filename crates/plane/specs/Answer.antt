@@ -11,12 +11,12 @@ use Rattle.plane.specs.declared.answer.PlaneAnswer.TheVariants.{NoPoint, Point}
 abbrev pub Reads : PlaneAnswer → Option Rival → Type 0
 Reads NoPoint None = Unit {0}
 Reads NoPoint (Some r) = ⊥
-Reads (Point x y d) None = ⊥
-Reads (Point x y d) (Some r) = Reduced x y d × (x *ℤ r.point.D ≡ r.point.X *ℤ d) × (y *ℤ r.point.D ≡ r.point.Y *ℤ d)
+Reads (Point s) None = ⊥
+Reads (Point s) (Some r) = Reduced s.x s.y s.d × (s.x *ℤ r.point.D ≡ r.point.X *ℤ s.d) × (s.y *ℤ r.point.D ≡ r.point.Y *ℤ s.d)
 
 -- the answer tells the value
 abbrev pub Tells : Value Place → PlaneAnswer → Type 0
 Tells top NoPoint = Unit {0}
-Tells top (Point x y d) = ⊥
+Tells top (Point s) = ⊥
 Tells (finite s) NoPoint = ⊥
-Tells (finite s) (Point x y d) = LowestTerms s.X s.Y s.D x y d
+Tells (finite s) (Point t) = LowestTerms s.X s.Y s.D t.x t.y t.d

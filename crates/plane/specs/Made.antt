@@ -3,7 +3,7 @@ use Rattle.std.specs.Prelude.{◌≡◌, true, ℤ, Result}
 use Rattle.rows.specs.Judged.{Gives, Unless}
 use Rattle.rows.specs.declared.refusal.Refusal.{Refusal}
 use Rattle.rows.specs.declared.refusal.Refusal.TheVariants.{NotAdmitted}
-use Rattle.limits.specs.Plane.{within}
+use Rattle.rows.specs.Range.{within}
 use Rattle.plane.specs.declared.problem.Plane.{Plane}
 
 -- both factors of the cost are within 1,000 of 0

@@ -1,6 +1,8 @@
-// The cheapest point, x/d and y/d in lowest terms, or none.
+use lowest::reduce::RationalPoint;
+
+// The cheapest point, or none. By a rule of the project answers are enums; each has a line of its own in a listing, as no Option has.
 #[derive(Clone, Copy)]
 pub enum PlaneAnswer {
     NoPoint,
-    Point { x: i64, y: i64, d: i64 },
+    Point(RationalPoint),
 }

@@ -1,5 +1,5 @@
 #![tactic(auto)]
 
 pub mod answer;
-mod few;
 pub mod problem;
+mod search;

@@ -1,9 +1,10 @@
 pub mod making;
 pub mod questions;
 mod searching;
+mod square;
 
 ghost use Rattle.std.specs.Prelude.{◌≡◌, true};
-ghost use Rattle.limits.specs.Plane.{within};
+ghost use Rattle.rows.specs.Range.{within};
 
 // The cheapest point of the plane under limits: p·x + q·y is least, then x, then y.
 #[derive(Clone, Copy)]

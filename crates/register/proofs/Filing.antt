@@ -1,5 +1,5 @@
 -- What enter, strike and restore make of a register's table, order and basis.
-use Rattle.std.proofs.Common.{◌≡◌, ℕ, zero, suc, ◌+◌, ◌<◌, true, false, eqb, ◌⊎◌, List, [], ◌∷◌, ◌++◌, map, length, get_or, take, set, ℤ, pos, nat_abs, ◌≤ℤ◌, sym, refl, ap, ◌∙◌, subst, inl, inr, ⊎_elim, arith, length-append, length-take, get_or-set_other, get_or-take, get_or-set_same}
+use Rattle.std.proofs.Common.{◌≡◌, ℕ, zero, suc, ◌+◌, ◌<◌, true, false, eqb, ◌⊎◌, List, [], ◌∷◌, ◌++◌, map, length, get_or, take, set, ℤ, pos, nat_abs, ◌≤ℤ◌, Ok, Err, Result, sym, refl, ap, ◌∙◌, subst, inl, inr, ⊎_elim, arith, length-append, length-take, get_or-set_other, get_or-take, get_or-set_same}
 use Rattle.std.proofs.ByRecursion.{All-push}
 use Rattle.std.proofs.lemmas.List.{take_more_set, get_or_append_left, map_push}
 use Rattle.std.proofs.lemmas.Int.{ints, by_lt_z}
@@ -9,11 +9,12 @@ use Rattle.rows.specs.declared.row.Constraint.{Constraint}
 use Rattle.rows.specs.declared.row.Row.{Row}
 use Rattle.rows.specs.declared.row.Mark.{Mark}
 use Rattle.rows.specs.declared.row.Mark.TheVariants.{Open, Struck}
+use Rattle.rows.specs.declared.refusal.Refusal.{Refusal}
 use Rattle.lptype.specs.Meaning.{Meaning, In, Admitted, Stands}
 use Rattle.lptype.proofs.Standing.{stands_by}
 use Rattle.register.specs.Table.{marked}
 use Rattle.checking.specs.Filed.{has_open, OnOpen, AllBelow, occurs, Covers}
-use Rattle.register.specs.State.{State, Good, entered, with_mark, Emptied, StruckAt, restored}
+use Rattle.register.specs.State.{State, Good, Became, entered, with_mark, Emptied, StruckAt, restored, MarkAnswer, BasisAfter, MarkedAt}
 use Rattle.checking.proofs.Occurring.{in_at}
 use Rattle.checking.proofs.Opening.{opens, opened}
 use Rattle.register.proofs.Marking.{marked_length, marked_there, marked_elsewhere, marked_constraints, marked_picked}
@@ -111,6 +112,20 @@ filed_struck p rows ps after h f e = ⊎_elim
     (λ s. absurd (n (subst (λ (q : ℤ). In q ps) (same_place p (get_or ps k (pos 0)) h.0 (opens rows (get_or ps k (pos 0)) (f k l)).0.0 s) (in_at ps k (pos 0) l))))))
     (in_or_not p ps)
 
+-- ---- both, by the mark
+
+pub marks_row : (mark : Mark) (s : State) (p : ℤ) → MarkAnswer mark s p (Ok tt) → HasRow s.rows p
+marks_row Struck s p a = a.0
+marks_row Open s p a = a.0
+
+pub filed_marked : (mark : Mark) (p : ℤ) (rows : List Row) (ps after : List ℤ) → HasRow rows p → OnOpen rows ps → BasisAfter mark p ps after → OnOpen (with_mark mark p rows) after
+filed_marked Struck p rows ps after h f e = filed_struck p rows ps after h f e
+filed_marked Open p rows ps after h f e = subst (OnOpen (with_mark Open p rows)) (sym e) (filed_restored p rows ps f)
+
+pub marked_at : (mark : Mark) (p : ℤ) (s t : State) → t.rows ≡ with_mark mark p s.rows → t.order ≡ s.order → BasisAfter mark p s.basis t.basis → MarkedAt mark p s t
+marked_at Struck p s t r o b = record { rows = r; order = o; basis = b }
+marked_at Open p s t r o b = same_state r o b
+
 -- ---- the filed rows stay admitted, and the filed basis stands
 
 pub good_restored : (m : Meaning) (p : ℤ) (s : State) → Good m s → Good m (restored p s)
@@ -127,3 +142,12 @@ good_struck m p s t a g = record {
       (λ n. subst (λ ps. Stands m (picked s.rows ps)) (sym (a.basis.1 n)) g.stands)
       (in_or_not p s.basis)));
 }
+
+-- so they do after a call, accepted or refused
+pub good_strike : (m : Meaning) (p : ℤ) (s t : State) (r : Result (Unit {0}) Refusal) → Became r s (StruckAt p s) t → Good m s → Good m t
+good_strike m p s t (Ok u) a g = good_struck m p s t a g
+good_strike m p s t (Err e) a g = subst (Good m) (sym a) g
+
+pub good_restore : (m : Meaning) (p : ℤ) (s t : State) (r : Result (Unit {0}) Refusal) → Became r s (λ u. u ≡ restored p s) t → Good m s → Good m t
+good_restore m p s t (Ok u) a g = subst (Good m) (sym a) (good_restored m p s g)
+good_restore m p s t (Err e) a g = subst (Good m) (sym a) g

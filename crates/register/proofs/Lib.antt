@@ -2,4 +2,3 @@ mod Marking
 mod Filing
 mod Keeping
 mod Daily
-mod Settling

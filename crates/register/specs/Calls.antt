@@ -1,13 +1,12 @@
 -- What a register holds, read off the register.
-use Rattle.std.specs.Prelude.{take}
-use Rattle.rows.specs.List.{positions}
 use Rattle.register.specs.State.{State}
+use Rattle.register.specs.Contents.{contents_state}
 use Rattle.register.specs.Days.{Phase, settled}
 use Rattle.register.specs.declared.working.Working.{Working}
 use Rattle.register.specs.declared.settled.Settled.{Settled}
 
 abbrev pub state_of : {P : Type 0} → Working P → State
-state_of w = record { rows = take w.used w.table.rows; order = take w.used w.order; basis = positions w.basis }
+state_of w = contents_state w.contents
 
 abbrev pub settled_state : {P : Type 0} → Settled P → State
 settled_state w = state_of w.register

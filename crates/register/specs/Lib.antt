@@ -3,3 +3,4 @@ pub mod State
 pub mod Days
 pub mod DayLaw
 pub mod Calls
+pub mod Contents

@@ -64,3 +64,23 @@ RestoreAnswer s p = Unless NoRow (HasRow s.rows p) (Unless AlreadyOpen ((row_at 
 
 abbrev pub restored : ℤ → State → State
 restored p s = record { rows = with_mark Open p s.rows; order = s.order; basis = s.basis }
+
+-- ---- both, by the mark that a row is given
+
+-- the refusal of a row that has the mark
+abbrev pub already : Mark → Refusal
+already Struck = AlreadyStruck
+already Open = AlreadyOpen
+
+abbrev pub MarkAnswer : Mark → State → ℤ → Result (Unit {0}) Refusal → Type 0
+MarkAnswer Struck s p = StrikeAnswer s p
+MarkAnswer Open s p = RestoreAnswer s p
+
+-- what becomes of the basis
+abbrev pub BasisAfter : Mark → ℤ → List ℤ → List ℤ → Type 0
+BasisAfter Struck p basis after = Emptied p basis after
+BasisAfter Open p basis after = after ≡ basis
+
+abbrev pub MarkedAt : Mark → ℤ → State → State → Type 0
+MarkedAt Struck p s t = StruckAt p s t
+MarkedAt Open p s t = t ≡ restored p s

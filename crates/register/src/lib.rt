@@ -1,6 +1,6 @@
 #![tactic(auto)]
 
+pub mod contents;
 pub mod settled;
 pub mod table;
-pub mod table_check;
 pub mod working;

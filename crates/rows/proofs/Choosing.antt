@@ -1,7 +1,6 @@
--- The elements that a mask chooses: a sublist, every sublist is chosen by some mask, and one step of the code.
-use Rattle.std.proofs.Common.{◌≡◌, ℕ, ◌+◌, ◌*◌, ◌/◌, ◌%◌, ◌^◌, ◌<◌, ◌≤◌, eqb, List, [], ◌∷◌, ◌++◌, length, get_or, take, drop, set, ℤ, pos, sym, refl, ap, ◌∙◌, arith}
+-- The elements that a mask chooses: a sublist, and every sublist is chosen by some mask.
+use Rattle.std.proofs.Common.{◌≡◌, ℕ, ◌+◌, ◌*◌, ◌/◌, ◌%◌, ◌^◌, ◌<◌, eqb, List, [], ◌∷◌, length, ℤ, refl, ap, ◌∙◌, arith}
 use native.Mathlib.Nat.{pow-succ'}
-use Rattle.std.proofs.lemmas.List.{append-nil, append_assoc, take_more_set, drop_more, at_drop_all}
 use Rattle.std.proofs.lemmas.Bool.{cond-true, cond-false, cond_both}
 use Rattle.std.proofs.lemmas.Bool.Decides.{nat_tests}
 use Rattle.rows.specs.Sublist.{Sublist, nothing, leave, keep}
@@ -32,24 +31,3 @@ reached (keep {x = x} {xs = xs} s) =
     let k = r.0 in
     let h : (2 * k + 1) / 2 ≡ k = omega arith in
     (2 * k + 1, rw pow-succ' (omega (arith, r.1)), chosen_set x xs (2 * k + 1) (omega arith) ∙ ap (λ j. x ∷ chosen xs j) h ∙ ap (λ l. x ∷ l) r.2)
-
--- one turn of the loop: with the bit set, and without
-module _ (at xs : List ℤ) (n i mask : ℕ) (more : i < length xs) where
-  pub pick_set : n < length at → mask % 2 ≡ 1 →
-      take (n + 1) (set at n (get_or xs i (pos 0))) ++ chosen (drop (i + 1) xs) (mask / 2) ≡ take n at ++ chosen (drop i xs) mask
-  pick_set f e =
-      let x = get_or xs i (pos 0) in
-      let rest = drop (i + 1) xs in
-      ap (λ l. l ++ chosen rest (mask / 2)) (take_more_set at n x f)
-      ∙ append_assoc (take n at) (x ∷ []) (chosen rest (mask / 2))
-      ∙ ap (λ l. take n at ++ l) (sym (chosen_set x rest mask e))
-      ∙ ap (λ l. take n at ++ chosen l mask) (sym (drop_more xs i (pos 0) more))
-
-  pub pick_clear : (mask % 2 ≡ 1 → ⊥) → take n at ++ chosen (drop (i + 1) xs) (mask / 2) ≡ take n at ++ chosen (drop i xs) mask
-  pick_clear e =
-      ap (λ l. take n at ++ l) (sym (chosen_clear (get_or xs i (pos 0)) (drop (i + 1) xs) mask e))
-      ∙ ap (λ l. take n at ++ chosen l mask) (sym (drop_more xs i (pos 0) more))
-
--- the end of the loop
-pub pick_all : (at xs : List ℤ) (n i mask : ℕ) → length xs ≤ i → take n at ≡ take n at ++ chosen (drop i xs) mask
-pick_all at xs n i mask k = sym (append-nil (take n at)) ∙ ap (λ l. take n at ++ l) (sym (at_drop_all (λ l. chosen l mask) xs i k))

@@ -1,9 +1,9 @@
 -- A number put into a list by order: what the list then holds, that it rises, and one step of the code.
-use Rattle.std.proofs.Common.{◌≡◌, ℕ, ◌+◌, ◌<◌, ◌≤◌, Bool, true, false, cond, List, [], ◌∷◌, ◌++◌, length, get_or, take, drop, set, ℤ, pos, ◌<ℤ◌, sym, refl, ap, ◌∙◌, subst, arith}
+use Rattle.std.proofs.Common.{◌≡◌, ℕ, ◌+◌, ◌<◌, Bool, true, false, cond, List, [], ◌∷◌, ◌++◌, length, get_or, drop, ℤ, pos, ◌<ℤ◌, sym, refl, ap, ◌∙◌, subst, arith}
 use lib.Signed.{lt_z}
 use Rattle.std.specs.Int.{int_min, int_max}
 use Rattle.std.specs.List.{AllByRecursion}
-use Rattle.std.proofs.lemmas.List.{append_assoc, take_more_set, drop_more, at_drop_all}
+use Rattle.std.proofs.lemmas.List.{append_assoc, drop_more}
 use Rattle.std.proofs.lemmas.Int.{ints}
 use Rattle.std.proofs.lemmas.Bool.{cond-false, cond_both}
 use Rattle.rows.specs.Rising.{Rising}
@@ -51,20 +51,15 @@ inserted_more next x rest a = go (lt_z x next)
     go true = refl
     go false = ap (λ l. next ∷ l) (sym (inserted_first x rest a))
 
--- one turn of the loop: the smaller is put at place i
-pub put_more : (at xs : List ℤ) (i : ℕ) (next : ℤ) → i < length at → i < length xs → Ascending xs →
+-- one turn of the loop: the smaller is put last
+pub put_more : (front xs : List ℤ) (i : ℕ) (next : ℤ) → i < length xs → Ascending xs →
     let x = get_or xs i (pos 0) in
-    take (i + 1) (set at i (int_min next x)) ++ inserted (int_max next x) (drop (i + 1) xs) ≡ take i at ++ inserted next (drop i xs)
-put_more at xs i next f k a =
+    (front ++ (int_min next x ∷ [])) ++ inserted (int_max next x) (drop (i + 1) xs) ≡ front ++ inserted next (drop i xs)
+put_more front xs i next k a =
     let x = get_or xs i (pos 0) in
     let rest = drop (i + 1) xs in
     let d = drop_more xs i (pos 0) k in
     let above = (subst Ascending d (ascending_drop i xs a)).0 in
-    ap (λ l. l ++ inserted (int_max next x) rest) (take_more_set at i (int_min next x) f)
-    ∙ append_assoc (take i at) (int_min next x ∷ []) (inserted (int_max next x) rest)
-    ∙ ap (λ l. take i at ++ l) (sym (inserted_more next x rest above))
-    ∙ ap (λ l. take i at ++ inserted next l) (sym d)
-
--- the end of the loop: what is left is put last
-pub put_all : (at xs : List ℤ) (n : ℕ) (next : ℤ) → n < length at → length xs ≤ n → take (n + 1) (set at n next) ≡ take n at ++ inserted next (drop n xs)
-put_all at xs n next f k = take_more_set at n next f ∙ ap (λ l. take n at ++ l) (sym (at_drop_all (inserted next) xs n k))
+    append_assoc front (int_min next x ∷ []) (inserted (int_max next x) rest)
+    ∙ ap (λ l. front ++ l) (sym (inserted_more next x rest above))
+    ∙ ap (λ l. front ++ inserted next l) (sym d)

@@ -1,7 +1,9 @@
 pub mod Rising
 pub mod Row
+pub mod Range
 pub mod Number
 pub mod Judged
+pub mod Numbers
 pub mod List
 pub mod Sublist
 pub mod Pool

@@ -1,12 +1,13 @@
 -- A list of positions with one more, and what can be picked from it.
-use Rattle.std.specs.Prelude.{◌≡◌, ℕ, ◌/◌, ◌%◌, ◌≤◌, cond, List, [], ◌∷◌, length, take, ℤ, Option, MatchOption, ◌==◌, int_lt}
+use Rattle.std.specs.Prelude.{◌≡◌, ℕ, ◌/◌, ◌%◌, ◌≤◌, cond, List, [], ◌∷◌, length, ℤ, Option, MatchOption, ◌==◌, int_lt}
+use Rattle.rows.specs.Numbers.{numbers_in}
 use Rattle.rows.specs.Rising.{Rising}
 use Rattle.rows.specs.List.{positions}
 use Rattle.rows.specs.declared.positions.Positions.{Positions}
 use Rattle.rows.specs.declared.positions.pool.Pool.{Pool}
 
 abbrev pub pooled : Pool → List ℤ
-pooled p = take p.len p.at
+pooled p = numbers_in p.list
 
 -- h put in before the first number that is not below it
 abbrev pub inserted : ℤ → List ℤ → List ℤ

@@ -1,5 +1,7 @@
 #![tactic(auto)]
 
+pub mod numbers;
 pub mod positions;
+pub mod range;
 pub mod refusal;
 pub mod row;

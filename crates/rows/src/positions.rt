@@ -1,14 +1,15 @@
 pub mod making;
 pub mod pool;
 
-ghost use Rattle.std.specs.Prelude.{◌≤◌};
+ghost use Rattle.std.specs.Prelude.{length};
+ghost use Rattle.rows.specs.Numbers.{numbers_in};
 ghost use Rattle.rows.specs.Rising.{Rising};
+
+use crate::numbers::Numbers;
 
 // At most eight positions, each larger than the one before it.
 #[derive(Clone, Copy)]
 pub struct Positions {
-    at: [i64; 8],
-    len: usize,
-    ghost few: { len ≤ 8 },
-    ghost rising: { Rising at len },
+    list: Numbers<8>,
+    ghost rising: { Rising (numbers_in list) (length (numbers_in list)) },
 }

@@ -23,12 +23,12 @@ pub enum Refusal {
     SeedRange,
 }
 
-impl Refusal {
-    // The status number that a user sees.
-    pub fn number(self) -> u8
-        ensures { result ≡ number_of self }
-    {
-        match self {
+// The status number that a user sees.
+impl From<Refusal> for u8 {
+    ghost from_gives = { λ refusal number. number ≡ number_of refusal };
+
+    fn from(refusal: Refusal) -> u8 {
+        match refusal {
             Refusal::NotAdmitted => 1,
             Refusal::ParishRange => 2,
             Refusal::TableFull => 3,

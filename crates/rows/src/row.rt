@@ -1,8 +1,10 @@
-ghost use Rattle.std.specs.Prelude.{◌≡◌, Decides, MatchOption};
-ghost use Rattle.rows.specs.Row.{HasRow, IsParish, Named, row_at, open_row};
+pub mod picking;
 
-// What a problem sees of a row: three numbers and the parish.
-#[derive(Clone, Copy)]
+ghost use Rattle.std.specs.Prelude.{◌≡◌, Decides, MatchOption};
+ghost use Rattle.rows.specs.Row.{HasRow, IsParish, Named, at, row_at, open_row};
+
+// What a problem sees of a row: three numbers and the parish. Its default stands in the unused places of an ArrayVec only.
+#[derive(Clone, Copy, Default)]
 pub struct Constraint {
     pub a: i32,
     pub b: i32,
@@ -34,7 +36,7 @@ pub const BLANK: Row = Row {
 };
 
 impl Constraint {
-    // This constraint as a row that counts.
+    // This constraint as a row that counts. No From: the name says which mark it gives.
     pub fn opened(self) -> Row
         ensures { result ≡ open_row self }
     {
@@ -49,21 +51,14 @@ impl Constraint {
 pub fn is_parish(number: u8) -> bool
     ensures { Decides result (IsParish number) }
 {
-    1 <= number && number <= 16
+    (1..=16).contains(&number)
 }
 
 // The row at a position, where there is one.
 pub fn row_at(rows: &[Row], position: i64) -> Option<Row>
     ensures { MatchOption result (HasRow rows.now position → ⊥) (λ x. HasRow rows.now position × (x ≡ row_at rows.now position)) }
 {
-    if position < 0 {
-        return None;
-    }
-    let i = position as usize;
-    if i >= rows.len() {
-        return None;
-    }
-    Some(rows[i])
+    rows.get(usize::try_from(position).ok()?).copied()
 }
 
 // Whether the position has a row.
@@ -77,10 +72,16 @@ pub fn has_row(rows: &[Row], position: i64) -> bool
 pub fn all_named(rows: &[Row], list: &[i64]) -> bool
     ensures { Decides result (Named rows.now list.now) }
 {
-    for p in list {
-        if !has_row(rows, *p) {
-            return false;
-        }
+    list.iter().all(|p| has_row(rows, *p))
+}
+
+// The constraint of the row at a position.
+pub fn constraint_at(rows: &[Row], position: i64) -> Constraint
+    requires { HasRow rows.now position }
+    ensures { result ≡ at rows.now position }
+{
+    match row_at(rows, position) {
+        Some(row) => row.constraint,
+        None => unreachable(),
     }
-    true
 }

@@ -37,6 +37,9 @@ stands_empty : (F : List Constraint) → Stands everything F → length F ≡ 0
 stands_empty [] s = refl
 stands_empty (x ∷ F) s = absurd (true≢false (s.without [] F x refl))
 
+pub decides_none : (F : List Constraint) → Decides (length F == 0) (Stands everything F)
+decides_none F = (λ e. empty_stands F (eqb-true (length F) 0 e), λ s. eq-eqb (length F) 0 (stands_empty F s))
+
 module _ (rows : List Row) (ps : List ℤ) where
   pub stands_at : length ps ≡ 0 → Stands everything (picked rows ps)
   stands_at e = empty_stands (picked rows ps) (omega (arith, length-map ps (at rows)))

@@ -3,9 +3,7 @@ ghost use Rattle.trials.specs.Everything.{everything};
 ghost use Rattle.trials.specs.Everythings.{everything_laws, none_some};
 
 use lptype::problem::Problem;
-use rows::positions::Positions;
-use rows::refusal::Refusal;
-use rows::row::Row;
+use rows::row::Constraint;
 
 // The problem whose one rival keeps every row.
 #[derive(Clone, Copy)]
@@ -30,27 +28,13 @@ impl Problem for Everything {
         true
     }
 
-    fn stands(&self, rows: &[Row], list: &Positions) -> Result<bool, Refusal> {
-        let positions = list.as_slice();
-        self.sound(rows, positions)?;
-        Ok(positions.len() == 0)
+    fn is_standing(&self, list: &[Constraint]) -> bool {
+        list.is_empty()
     }
 
-    fn violates(&self, rows: &[Row], list: &Positions, h: i64) -> Result<bool, Refusal> {
-        let positions = list.as_slice();
-        self.sound_with(rows, positions, h)?;
-        if positions.len() > 0 {
-            return Err(Refusal::NotStanding);
-        }
-        Ok(false)
+    fn is_raised(&self, _list: &[Constraint], _row: Constraint) -> bool {
+        false
     }
 
-    fn answer(&self, rows: &[Row], list: &Positions) -> Result<(), Refusal> {
-        let positions = list.as_slice();
-        self.sound(rows, positions)?;
-        if positions.len() > 0 {
-            return Err(Refusal::NotStanding);
-        }
-        Ok(())
-    }
+    fn best(&self, _list: &[Constraint]) {}
 }

@@ -7,7 +7,7 @@ use listing::answers::AnswerLine;
 use listing::line::{first_line, obey_line};
 use listing::obeying::Outcome;
 use listing::planes::plane_of;
-use listing::text::{report, settlement};
+use listing::text::Printer;
 use lptype::problem::Problem;
 use parish::layer::Parish;
 use register::working::Working;
@@ -18,12 +18,19 @@ use std::process::Abort;
 use std::test::Fail;
 use walk::shuffling::shuffle;
 
-// The listing of the lines after the first of a short file.
+// Puts the first line of some bytes into an empty buffer, and gives the bytes after it.
+fn after_line<'a>(line: &mut LineBuffer, bytes: &'a [u8]) -> &'a [u8] {
+    line.fill(bytes)
+        .and_then(|taken| bytes.get(taken..))
+        .unwrap_or(&[])
+}
+
+// The listing of the lines after the first of a short file. The program's loop once more: a test cannot call the program,
+// and a public function over readers and writers could promise nothing.
 fn later_lines<P: Problem + Drop>(
     heap: Global,
     problem: P,
-    file: &[u8],
-    start: usize,
+    lines: &[u8],
 ) -> Result<String, AllocError>
 where
     P::Answer: AnswerLine + Drop,
@@ -31,24 +38,22 @@ where
     let mut out = String::new(heap);
     let mut register = Working::new(problem);
     let mut line = LineBuffer::new();
-    let mut at = start;
+    let mut rest = lines;
     for number in 2..1000u64 {
-        if at >= file.len() {
+        if rest.is_empty() {
             break;
         }
         line.clear();
-        match line.fill(&file[at..]) {
-            Some(taken) => at = at.saturating_add(taken),
-            None => at = file.len(),
-        }
+        rest = after_line(&mut line, rest);
+        let printer = Printer::new(heap, number);
         let text = match obey_line(&mut register, &line) {
             Ok(Outcome::Settle) => {
                 let settled = register.settle();
-                let text = settlement(heap, number, &settled)?;
+                let text = printer.settlement(&settled)?;
                 register = settled.reopen();
                 text
             }
-            outcome => report(heap, number, outcome)?,
+            outcome => printer.report(outcome)?,
         };
         out.push_str(text.as_str())?;
     }
@@ -57,22 +62,20 @@ where
 
 // The listing of a short file.
 fn listing_of(heap: Global, file: &[u8]) -> Result<String, AllocError> {
-    let mut line = LineBuffer::new();
-    let start = match line.fill(file) {
-        Some(taken) => taken,
-        None => file.len(),
-    };
     if file.is_empty() {
         return Ok(String::new(heap));
     }
+    let mut line = LineBuffer::new();
+    let lines = after_line(&mut line, file);
+    let printer = Printer::new(heap, 1);
     match first_line(&line) {
-        Ok(Header::Disc) => later_lines(heap, Disc, file, start),
+        Ok(Header::Disc) => later_lines(heap, Disc, lines),
         Ok(Header::Plane { p, q }) => match plane_of(p, q) {
-            Ok(plane) => later_lines(heap, plane, file, start),
-            Err(refusal) => report(heap, 1, Err(refusal)),
+            Ok(plane) => later_lines(heap, plane, lines),
+            Err(refusal) => printer.report(Err(refusal)),
         },
-        Ok(Header::Bounds) => later_lines(heap, Bounds, file, start),
-        Err(refusal) => report(heap, 1, Err(refusal)),
+        Ok(Header::Bounds) => later_lines(heap, Bounds, lines),
+        Err(refusal) => printer.report(Err(refusal)),
     }
 }
 
@@ -195,7 +198,7 @@ fn a_full_table_refuses(rt: HostRuntime) -> Result<(), Fail> {
     match register.enter(row) {
         Ok(()) => Err(Fail::new("taken")),
         Err(refusal) => {
-            assert!(rt; refusal.number() == 3);
+            assert!(rt; u8::from(refusal) == 3);
             Ok(())
         },
     }
@@ -212,7 +215,7 @@ fn everything_is_kept(rt: HostRuntime) -> Result<(), Fail> {
         parish: 2,
     });
     assert!(rt; register.check(&Positions::empty()).is_ok());
-    match Positions::from_numbers(&[0]) {
+    match Positions::try_from([0].as_slice()) {
         Ok(list) => {
             assert!(rt; register.check(&list).is_err());
             Ok(())
@@ -249,10 +252,10 @@ fn layers_count_one_parish(rt: HostRuntime) -> Result<(), Fail> {
         c: 0,
         parish: 2,
     });
-    let Ok(two) = Positions::from_numbers(&[0, 1]) else {
+    let Ok(two) = Positions::try_from([0, 1].as_slice()) else {
         return Err(Fail::new("refused"));
     };
-    let Ok(three) = Positions::from_numbers(&[0, 1, 2]) else {
+    let Ok(three) = Positions::try_from([0, 1, 2].as_slice()) else {
         return Err(Fail::new("refused"));
     };
     assert!(rt; register.check(&two).is_ok());
@@ -272,7 +275,7 @@ fn a_day_over_layers(rt: HostRuntime) -> Result<(), Fail> {
     let Ok(same) = Parish::new(layer, 1) else {
         return Err(Fail::new("refused"));
     };
-    let counted = later_lines(heap, same, file, 0)?;
+    let counted = later_lines(heap, same, file)?;
     assert!(rt;
         counted.as_str()
             == "basis,5,2,0,2\nbox,5,0,3,0,1\nwalk,5,7,2\npasses,6\nrefused,7,10\nbasis,10,1,0\nbox,10,0,0,0,0\nwalk,10,3,1\nrefused,12,11\n"
@@ -283,7 +286,7 @@ fn a_day_over_layers(rt: HostRuntime) -> Result<(), Fail> {
     let Ok(other) = Parish::new(layer, 2) else {
         return Err(Fail::new("refused"));
     };
-    let empty = later_lines(heap, other, file, 0)?;
+    let empty = later_lines(heap, other, file)?;
     assert!(rt;
         empty.as_str()
             == "basis,5,0\nempty,5\nwalk,5,3,0\nrefused,6,10\nrefused,7,10\nbasis,10,0\nempty,10\nwalk,10,2,0\nrefused,12,10\n"
@@ -424,7 +427,6 @@ fn a_disc_under_a_layer(rt: HostRuntime) -> Result<(), Fail> {
         heap,
         layer,
         b"row,0,0,0,1\nrow,4,0,0,1\nrow,0,2,0,2\nsettle\ncheck,0,1\n",
-        0,
     )?;
     assert!(rt; text.as_str() == "basis,5,2,0,1\ndisc,5,2,0,1\nwalk,5,6,2\npasses,6\n");
     Ok(())

@@ -1,14 +1,15 @@
 -- The three numbers of a crossing are those of its point, and small.
-use Rattle.std.proofs.Common.{◌≡◌, Bool, true, false, cond, [], ◌∷◌, ℤ, pos, neg_ℤ, ◌<ℤ◌, Some, None, Option, sym, refl, subst, arith}
+use Rattle.std.proofs.Common.{◌≡◌, Bool, true, false, cond, [], ◌∷◌, ℤ, pos, neg_ℤ, ◌<ℤ◌, Some, None, Option, sym, refl, subst, arith, w32, to_z, of_z}
 use lib.Signed.{lt_z}
 use Rattle.std.proofs.lemmas.Bool.{false≢true}
 use Rattle.rows.specs.declared.row.Constraint.{Constraint}
 use Rattle.algebra.proofs.Order.{lin, antisym, lt_z_out, lt_z_false}
+use Rattle.rows.specs.Range.{within}
 use Rattle.limits.specs.Crossings.{point_of, cramer_x, cramer_y, cramer_d}
-use Rattle.limits.proofs.Cramer.{with_numbers, point_above, point_below, point_none}
+use Rattle.limits.proofs.Cramer.{with_numbers, point_above, point_below}
 use Rattle.algebra.specs.Small.{Small}
-use Rattle.algebra.proofs.Computed.{small_mul, small_sub, small_neg}
-use Rattle.limits.proofs.Sizes.{within_small}
+use Rattle.algebra.proofs.Computed.{Val, val_of, small_mul, small_sub, small_neg}
+use Rattle.limits.proofs.Sizes.{computed_within, within_small}
 use Rattle.vertices.specs.Crossed.{upright, Bounded}
 
 -- x, y, d are the numbers of the point X/D, Y/D
@@ -47,14 +48,6 @@ module _ (X Y D : ℤ) where
         go false true f g e = moved (neg_ℤ X) (neg_ℤ Y) (neg_ℤ D) e (negated (lt_z_out g))
         go false false f g e = let z : false ≡ true = cc in absurd (false≢true z)
 
-  pub upright_none : None ≡ upright X Y D → point_of X Y D ≡ []
-  upright_none e = go (lt_z (pos 0) D) (lt_z D (pos 0)) refl refl e
-    where
-      go : (b b' : Bool) → lt_z (pos 0) D ≡ b → lt_z D (pos 0) ≡ b' → None ≡ cond b (three X Y D) (cond b' (three (neg_ℤ X) (neg_ℤ Y) (neg_ℤ D)) None) → point_of X Y D ≡ []
-      go true b' f g e = let z : false ≡ true = cc in absurd (false≢true z)
-      go false true f g e = let z : false ≡ true = cc in absurd (false≢true z)
-      go false false f g e = point_none X Y D (antisym (lt_z_false f) (lt_z_false g))
-
 -- Cramer's numbers are small
 
 module _ (g h : Constraint) (p : Bounded g) (q : Bounded h) where
@@ -66,3 +59,24 @@ module _ (g h : Constraint) (p : Bounded g) (q : Bounded h) where
 
   pub cramer_d_small : Small 2000000 (cramer_d g h)
   cramer_d_small = small_sub (small_mul (within_small 1000 g.a p.a_small) (within_small 1000 h.b q.b_small)) (small_mul (within_small 1000 h.a q.a_small) (within_small 1000 g.b p.b_small))
+
+-- the numbers of a limit, as the code passes them
+
+module _ (g : Constraint) (p : Bounded g) where
+  pub a_read : Val 1000 (to_z w32 (of_z w32 g.a)) g.a
+  a_read = val_of w32 (within_small 1000 g.a p.a_small) tt
+
+  pub b_read : Val 1000 (to_z w32 (of_z w32 g.b)) g.b
+  b_read = val_of w32 (within_small 1000 g.b p.b_small) tt
+
+  pub c_read : Val 1000000 (to_z w32 (of_z w32 g.c)) g.c
+  c_read = val_of w32 (within_small 1000000 g.c p.c_small) tt
+
+  pub a_fine : within 1000000 (to_z w32 (of_z w32 g.a)) ≡ true
+  a_fine = computed_within 1000000 (omega arith) a_read
+
+  pub b_fine : within 1000000 (to_z w32 (of_z w32 g.b)) ≡ true
+  b_fine = computed_within 1000000 (omega arith) b_read
+
+  pub c_fine : within 1000000 (to_z w32 (of_z w32 g.c)) ≡ true
+  c_fine = computed_within 1000000 (omega arith) c_read

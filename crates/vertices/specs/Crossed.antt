@@ -2,7 +2,7 @@
 use Rattle.std.specs.Prelude.{◌≡◌, true, cond, ℤ, pos, neg_ℤ, Some, None, Option, int_lt}
 use Rattle.rows.specs.declared.row.Constraint.{Constraint}
 use Rattle.limits.specs.Crossings.{cramer_x, cramer_y, cramer_d}
-use Rattle.limits.specs.Plane.{within}
+use Rattle.rows.specs.Range.{within}
 
 -- the numbers of a limit are as small as those of an admitted row
 pub record Bounded (g : Constraint) : Type 0 where

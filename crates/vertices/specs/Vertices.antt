@@ -1,5 +1,5 @@
 -- What a vertex of the code stands for.
-use Rattle.std.specs.Prelude.{◌≡◌, ℕ, ◌<◌, true, List, [], ◌∷◌, length, ℤ, pos, Some, None, Option, slice_index_or}
+use Rattle.std.specs.Prelude.{◌≡◌, true, List, [], ◌∷◌, ℤ, pos, Some, None, Option, All}
 use Rattle.rows.specs.declared.row.Constraint.{Constraint}
 use Rattle.algebra.specs.Point.{Point}
 use Rattle.limits.specs.Crossings.{kept}
@@ -23,6 +23,6 @@ listed (Some v) = point v ∷ []
 abbrev pub no_limit : Constraint
 no_limit = record { a = pos 0; b = pos 0; c = pos 0; parish = 0 }
 
--- the point keeps the limit at each place of the list
+-- the point keeps each limit of the list
 abbrev pub KeepsEach : Point → List Constraint → Type 0
-KeepsEach z G = (i : ℕ) → i < length G → kept z (slice_index_or G i no_limit) ≡ true
+KeepsEach z G = All (λ g. kept z g ≡ true) G

@@ -1,4 +1,5 @@
 #![tactic(auto)]
 
 pub mod crossing;
+pub mod form;
 pub mod vertex;

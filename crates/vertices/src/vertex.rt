@@ -3,7 +3,7 @@ pub mod making;
 pub mod reducing;
 
 ghost use Rattle.std.specs.Prelude.{◌≡◌, true, pos, ◌<ℤ◌};
-ghost use Rattle.limits.specs.Plane.{within};
+ghost use Rattle.rows.specs.Range.{within};
 
 // The point x/d, y/d, with numbers small enough that the costs of two such points can be compared.
 #[derive(Clone, Copy)]

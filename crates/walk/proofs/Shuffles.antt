@@ -1,5 +1,5 @@
 -- Whatever the seed, the order is a permutation of the rows in use: each entry is in use, and each row is reached.
-use Rattle.std.proofs.Common.{◌≡◌, ℕ, zero, suc, ◌+◌, ◌-◌, ◌/◌, ◌<◌, ◌≤◌, true, eqb, List, [], ◌∷◌, ◌++◌, length, get_or, take, set, refl, ap, ◌∙◌, subst, mod-lt, arith, length-set, get_or-take}
+use Rattle.std.proofs.Common.{◌≡◌, ℕ, zero, suc, ◌+◌, ◌-◌, ◌/◌, ◌<◌, true, eqb, List, [], ◌∷◌, ◌++◌, length, get_or, take, set, refl, ap, ◌∙◌, subst, mod-lt, arith, length-set, get_or-take}
 use Rattle.std.specs.List.{range_with_len}
 use Rattle.std.specs.List.Sorted.{IsPermutation}
 use Rattle.std.proofs.lemmas.List.FromFn.{length-range_with_len, get_or-range_with_len}
@@ -52,12 +52,6 @@ module _ (order : List ℕ) (n : ℕ) (p : Permutes (take n order) n) where
       occurs_by k (take n order) h.0 h.1 (h.2 0)
 
 -- ---- one turn of the code
-
-pub mixed_more : (i seed : ℕ) (xs : List ℕ) → 1 ≤ i → mixed i seed xs ≡ mixed (i - 1) (next_seed seed) (swapped xs i (swap_place (next_seed seed) i))
-mixed_more zero seed xs l = absurd (omega arith)
-mixed_more (suc i) seed xs l =
-    let e : i ≡ suc i - 1 = omega arith in
-    ap (λ (k : ℕ). mixed k (next_seed seed) (swapped xs (suc i) (swap_place (next_seed seed) (suc i)))) e
 
 -- the numbers in rising order, mixed, are in front of the order
 pub shuffled_front : (n seed : ℕ) (xs ys rest : List ℕ) → xs ≡ range_with_len 0 n → ys ≡ mixed (length xs - 1) seed xs → take n (ys ++ rest) ≡ shuffled n seed

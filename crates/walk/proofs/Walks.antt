@@ -1,8 +1,8 @@
 -- Every walk keeps a basis that names open rows and stands, goes on only so long, and ends at a basis of the open rows.
-use Rattle.std.proofs.Common.{◌≡◌, ℕ, suc, ◌+◌, ◌-◌, ◌*◌, ◌<◌, ◌≤◌, true, eqb, List, [], ◌∷◌, length, get_or, take, ℤ, pos, Ok, sym, refl, ◌∙◌, subst, ⊎_elim, arith, length-take, get_or-take, below_more}
+use Rattle.std.proofs.Common.{◌≡◌, ℕ, suc, ◌+◌, ◌-◌, ◌*◌, ◌<◌, ◌≤◌, true, eqb, List, [], ◌∷◌, length, get_or, take, drop, ℤ, pos, Ok, sym, refl, ap, ◌∙◌, subst, ⊎_elim, arith, length-drop, length-take, get_or-drop, get_or-take, below_more}
 use Rattle.std.specs.List.{AllByRecursion}
 use Rattle.std.proofs.ByRecursion.{All-get_or, All-from_get_or}
-use Rattle.std.proofs.lemmas.List.{take-take}
+use Rattle.std.proofs.lemmas.List.{take-take, drop-drop}
 use Rattle.std.proofs.lemmas.Int.{ints}
 use Rattle.std.proofs.lemmas.Bool.{or_cases, eqb-true, false≢true}
 use Rattle.rows.specs.Row.{HasRow, Named, AllOpen, row_at, at, picked, no_row}
@@ -17,13 +17,13 @@ use Rattle.lptype.proofs.Standing.{short}
 use Rattle.checking.specs.Filed.{OnOpen, AllBelow, occurs, Covers}
 use Rattle.checking.specs.Checking.{QuietBefore, BasisOfOpen, open_rows}
 use Rattle.walk.specs.Walks.{position, Walked, begin, pass, hold, exchange, visits, WalkEnds, WalkReady, QuietUntil, Underway, WalkLaw}
-use Rattle.walk.specs.Steps.{StepAnswer, counted, next_place}
+use Rattle.walk.specs.Steps.{StepAnswer, counted, next_place, left_after}
 use Rattle.walk.specs.declared.walking.Counts.{Counts}
 use Rattle.walk.specs.declared.walking.Step.{Step}
 use Rattle.walk.specs.declared.walking.Step.TheVariants.{Passed, Kept, Changed}
 use Rattle.checking.proofs.Opening.{opens, opened}
 use Rattle.checking.proofs.Passing.{passes, picked_within}
-use Rattle.checking.proofs.Refusing.{admitted_picked}
+use Rattle.checking.proofs.Admitting.{admitted_picked}
 use Rattle.walk.proofs.Rank.{rank, rank_falls, turn_falls}
 
 open_not_struck : (mark : Mark) → mark ≡ Struck → mark ≡ Open → ⊥
@@ -161,3 +161,33 @@ module _ (m : Meaning) (laws : Laws m) (rows : List Row) (order : List ℕ) (sta
         (subst (λ d. Walked m rows order start (next_place s i) after d.tests d.exchanges) (sym e) (walked_step i c ps after s w l a));
     less = subst (λ (j : ℕ). left m rows order j after < left m rows order i ps) (sym f) (left_falls i c ps after s w l a);
   }
+
+-- ---- the part of the order that is left
+
+-- a walk with so much of its order left: it is at the place where that begins
+pub record Leaves (m : Meaning) (rows : List Row) (order : List ℕ) (start : List ℤ) (rest : List ℕ) (ps : List ℤ) (t x : ℕ) : Type 0 where
+  pub place : ℕ
+  pub from_there : rest ≡ drop place order
+  pub walked : Walked m rows order start place ps t x
+
+module _ (order rest later : List ℕ) (i : ℕ) (e : rest ≡ drop i order) where
+  -- a step moves to the next place, or back to the first
+  pub left_next : later ≡ drop 1 rest → (s : Step) → left_after s order later ≡ drop (next_place s i) order
+  left_next f Passed = f ∙ ap (drop 1) e ∙ drop-drop 1 i order
+  left_next f Kept = f ∙ ap (drop 1) e ∙ drop-drop 1 i order
+  left_next f Changed = refl
+
+module _ (order rest : List ℕ) (i : ℕ) (e : rest ≡ drop i order) where
+  length_left : length rest ≡ length order - i
+  length_left = ap length e ∙ length-drop i order
+
+  -- where something is left, the place is one of the order, and holds what comes first
+  pub inside_left : 1 ≤ length rest → i < length order
+  inside_left l = omega (arith, length_left)
+
+  pub first_left : get_or rest 0 0 ≡ get_or order i 0
+  first_left = ap (λ xs. get_or xs 0 0) e ∙ get_or-drop i order 0 0 ∙ ap (λ (k : ℕ). get_or order k 0) (omega arith)
+
+  -- the place by what is left
+  pub place_left : i ≤ length order → length order - length rest ≡ i
+  place_left l = omega (arith, length_left)

@@ -6,7 +6,7 @@ ghost use Rattle.walk.specs.Shuffling.{next_seed, swap_place, mixed, shuffled, P
 fn next_seed(seed: u32) -> u32
     ensures { result ≡ next_seed seed }
 {
-    ((seed as u64 * 1_664_525 + 1_013_904_223) % 4_294_967_296) as u32
+    seed.wrapping_mul(1_664_525).wrapping_add(1_013_904_223)
 }
 
 // The place that changes contents with place i.
@@ -21,8 +21,8 @@ fn swap_place(seed: u32, i: usize) -> usize
 fn number(order: &mut [usize])
     ensures { order.new ≡ range_with_len 0 (length order.old) }
 {
-    for i in 0..order.len() {
-        order[i] = i;
+    for (i, place) in order.iter_mut().enumerate() {
+        *place = i;
     }
 }
 
@@ -32,13 +32,14 @@ fn mix(order: &mut [usize], seed: u32)
     ensures { order.new ≡ mixed (length order.old - 1) seed order.old }
 {
     let mut state = seed;
+    // Each turn needs two places, so no iterator over the order serves.
     for i in (1..order.len()).rev() {
         state = next_seed(state);
         order.swap(i, swap_place(state, i));
     }
 }
 
-// Makes the first places an order of their own numbers, given by the seed.
+// Makes the first places an order of their own numbers, given by the seed. By a rule of the project an order has 256 places.
 pub fn shuffle(order: &mut [usize; 256], count: usize, seed: u32)
     requires { count ≤ 256 }
     ensures value { take count order.new ≡ shuffled count seed }

@@ -1,11 +1,12 @@
-ghost use Rattle.std.specs.Prelude.{◌≡◌, ◌+◌, ◌^◌, ◌<◌, length, pos};
+ghost use Rattle.std.specs.Prelude.{◌≡◌, pos};
 ghost use Rattle.rows.specs.List.{positions};
 ghost use Rattle.lptype.specs.Questions.{Exchanged};
-ghost use Rattle.walk.specs.Steps.{Tested, RaisedOrQuiet, StepAnswer, no_counts, counted, next_place};
+ghost use Rattle.walk.specs.Steps.{Tested, StepAnswer, no_counts, counted, left_after};
 ghost use Rattle.walk.specs.Walks.{WalkReady, WalkEnds, WalkLaw};
 
 use lptype::problem::Problem;
 use rows::positions::Positions;
+use rows::row::picking::picked;
 use rows::row::{Mark, Row};
 
 // How many tests and exchanges a walk made; neither count passes 64 bits.
@@ -24,15 +25,13 @@ enum Step {
 }
 
 impl Step {
-    // The place after this one.
-    fn next(self, place: usize) -> usize
-        requires { place + 1 < 2 ^ 64 }
-        ensures { result ≡ next_place self place }
+    // The part of an order that is left after this step: all of it after an exchange, else what comes later.
+    fn left<'a>(self, order: &'a [usize], later: &'a [usize]) -> &'a [usize]
+        ensures { result.now ≡ left_after self order.now later.now }
     {
         match self {
-            Step::Passed => place + 1,
-            Step::Kept => place + 1,
-            Step::Changed => 0,
+            Step::Passed | Step::Kept => later,
+            Step::Changed => order,
         }
     }
 }
@@ -78,15 +77,8 @@ impl Counts {
     }
 }
 
-// Whether the row at a place raises the value of the basis.
-fn raised<P: Problem>(problem: &P, rows: &[Row], basis: &Positions, place: usize) -> bool
-    requires { Tested (P.meaning problem.now) rows.now (positions basis.now) place }
-    ensures { RaisedOrQuiet (P.meaning problem.now) rows.now (positions basis.now) (pos place) result }
-{
-    !problem.quiet_at(rows, basis, place as i64)
-}
-
 // Makes the basis one of its rows with the row at a place.
+// Problem and rows are two parameters here and in `visit`: two small methods of a struct of both are no plainer.
 fn change<P: Problem>(problem: &P, rows: &[Row], basis: &mut Positions, place: usize)
     requires { Tested (P.meaning problem.now) rows.now (positions basis.old) place }
     ensures { Exchanged (P.meaning problem.now) rows.now (positions basis.old) (pos place) (positions basis.new) }
@@ -99,11 +91,11 @@ fn visit<P: Problem>(problem: &P, rows: &[Row], basis: &mut Positions, place: us
     requires { Tested (P.meaning problem.now) rows.now (positions basis.old) place }
     ensures { StepAnswer (P.meaning problem.now) rows.now (positions basis.old) (pos place) (positions basis.new) result }
 {
-    match rows[place].mark {
-        Mark::Struck => return Step::Passed,
-        Mark::Open => {}
+    let row = rows[place];
+    if row.mark == Mark::Struck {
+        return Step::Passed;
     }
-    if !raised(problem, rows, basis, place) {
+    if !problem.is_raised(&picked(rows, basis), row.constraint) {
         return Step::Kept;
     }
     change(problem, rows, basis, place);
@@ -117,11 +109,11 @@ pub fn walk<P: Problem>(problem: &P, rows: &[Row], order: &[usize], basis: &mut 
     ensures law { WalkLaw (P.meaning problem.now) rows.now order.now (positions basis.old) }
 {
     let mut counts = Counts::none();
-    let mut place = 0;
-    while place < order.len() {
-        let step = visit(problem, rows, basis, order[place]);
+    let mut left = order;
+    while let [place, later @ ..] = left {
+        let step = visit(problem, rows, basis, *place);
         counts = counts.after(step);
-        place = step.next(place);
+        left = step.left(order, later);
     }
     counts
 }

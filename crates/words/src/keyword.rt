@@ -1,4 +1,4 @@
-ghost use Rattle.std.specs.Prelude.{◌≡◌, ℕ, Bool, List, Decides};
+ghost use Rattle.std.specs.Prelude.{◌≡◌, ℕ, Bool, List};
 ghost use Rattle.words.specs.Words.{WordRead, command_spelling, command_counts, header_spelling, header_counts};
 ghost use Rattle.std.proofs.Common.{rules};
 
@@ -10,7 +10,7 @@ pub trait Keyword: Sized {
     // Which counts of fields a line with the word may have, the word among them.
     ghost counts: { Self → ℕ → Bool };
 
-    // The word that the bytes spell, if one does.
+    // The word that the bytes spell, if one does. `TryFrom` is no plainer: its error would say no more than `None`.
     fn from_bytes(bytes: &[u8]) -> Option<Self>
         ensures { WordRead spelling bytes.now result };
 
@@ -22,15 +22,8 @@ pub trait Keyword: Sized {
     ghost distinct: { (v w : Self) → spelling v ≡ spelling w → v ≡ w };
 }
 
-// Whether the two are the same bytes.
-fn same(a: &[u8], b: &[u8]) -> bool
-    ensures { Decides result (a.now ≡ b.now) }
-{
-    a == b
-}
-
 // The words of line 1.
-#[derive(Clone, Copy)]
+#[derive(Clone, Copy, PartialEq, Eq, Debug)]
 pub enum HeaderWord {
     Disc,
     Plane,
@@ -38,7 +31,7 @@ pub enum HeaderWord {
 }
 
 // The words of the later lines.
-#[derive(Clone, Copy)]
+#[derive(Clone, Copy, PartialEq, Eq, Debug)]
 pub enum CommandWord {
     Row,
     Strike,
@@ -56,22 +49,18 @@ impl Keyword for HeaderWord {
     ghost distinct = { Prim.search rules };
 
     fn from_bytes(bytes: &[u8]) -> Option<HeaderWord> {
-        if same(bytes, b"disc") {
-            Some(HeaderWord::Disc)
-        } else if same(bytes, b"plane") {
-            Some(HeaderWord::Plane)
-        } else if same(bytes, b"box") {
-            Some(HeaderWord::Bounds)
-        } else {
-            None
+        match bytes {
+            b"disc" => Some(HeaderWord::Disc),
+            b"plane" => Some(HeaderWord::Plane),
+            b"box" => Some(HeaderWord::Bounds),
+            _ => None,
         }
     }
 
     fn takes(&self, count: usize) -> bool {
         match self {
-            HeaderWord::Disc => count == 1,
+            HeaderWord::Disc | HeaderWord::Bounds => count == 1,
             HeaderWord::Plane => count == 3,
-            HeaderWord::Bounds => count == 1,
         }
     }
 }
@@ -84,30 +73,22 @@ impl Keyword for CommandWord {
     ghost distinct = { Prim.search rules };
 
     fn from_bytes(bytes: &[u8]) -> Option<CommandWord> {
-        if same(bytes, b"row") {
-            Some(CommandWord::Row)
-        } else if same(bytes, b"strike") {
-            Some(CommandWord::Strike)
-        } else if same(bytes, b"restore") {
-            Some(CommandWord::Restore)
-        } else if same(bytes, b"check") {
-            Some(CommandWord::Check)
-        } else if same(bytes, b"shuffle") {
-            Some(CommandWord::Shuffle)
-        } else if same(bytes, b"settle") {
-            Some(CommandWord::Settle)
-        } else {
-            None
+        match bytes {
+            b"row" => Some(CommandWord::Row),
+            b"strike" => Some(CommandWord::Strike),
+            b"restore" => Some(CommandWord::Restore),
+            b"check" => Some(CommandWord::Check),
+            b"shuffle" => Some(CommandWord::Shuffle),
+            b"settle" => Some(CommandWord::Settle),
+            _ => None,
         }
     }
 
     fn takes(&self, count: usize) -> bool {
         match self {
             CommandWord::Row => count == 5,
-            CommandWord::Strike => count == 2,
-            CommandWord::Restore => count == 2,
+            CommandWord::Strike | CommandWord::Restore | CommandWord::Shuffle => count == 2,
             CommandWord::Check => count >= 2,
-            CommandWord::Shuffle => count == 2,
             CommandWord::Settle => count == 1,
         }
     }

@@ -3,9 +3,7 @@ ghost use Rattle.parish.specs.Layering.{over_laws};
 
 use crate::layer::Parish;
 use lptype::problem::Problem;
-use rows::positions::Positions;
-use rows::refusal::Refusal;
-use rows::row::Row;
+use rows::row::Constraint;
 
 impl<P: Problem> Problem for Parish<P> {
     type Answer = P::Answer;
@@ -26,15 +24,15 @@ impl<P: Problem> Problem for Parish<P> {
         self.below.admits(a, b, c)
     }
 
-    fn stands(&self, rows: &[Row], list: &Positions) -> Result<bool, Refusal> {
-        self.stands_inside(rows, list)
+    fn is_standing(&self, list: &[Constraint]) -> bool {
+        self.counts_all(list) && self.below.is_standing(list)
     }
 
-    fn violates(&self, rows: &[Row], list: &Positions, h: i64) -> Result<bool, Refusal> {
-        self.violates_inside(rows, list, h)
+    fn is_raised(&self, list: &[Constraint], row: Constraint) -> bool {
+        self.counts(row) && self.below.is_raised(list, row)
     }
 
-    fn answer(&self, rows: &[Row], list: &Positions) -> Result<P::Answer, Refusal> {
-        self.answer_inside(rows, list)
+    fn best(&self, list: &[Constraint]) -> P::Answer {
+        self.below.best(list)
     }
 }

@@ -26,7 +26,7 @@ impl<P: Problem> Settled<P> {
         ensures law { (calls : List Call) → Day (P.meaning self.now.register.problem) calls (settled_phase self.now) → BasisOfOpen (P.meaning self.now.register.problem) (settled_state self.now).rows (positions result) }
     {
         self.on_every_day();
-        self.register.basis
+        self.register.contents.basis
     }
 
     // How many tests and exchanges the walk made.
@@ -46,7 +46,7 @@ impl<P: Problem> Settled<P> {
         self.register.best()
     }
 
-    // A check goes on with every day that led here.
+    // A check goes on with every day that led here. `Working` has the same of its own phase; one function, told the phase, is no plainer.
     fn checked(&self, list: &Positions)
         ensures { Extends (P.meaning self.now.register.problem) (settled_phase self.now) (checking (positions list.now)) (settled_phase self.now) }
     {}

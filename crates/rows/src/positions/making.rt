@@ -2,6 +2,7 @@ ghost use Rattle.std.specs.Prelude.{◌≡◌, true, false, [], length, Decides}
 ghost use Rattle.rows.specs.Rising.{Rising};
 ghost use Rattle.rows.specs.List.{positions, ListMade};
 
+use crate::numbers::Numbers;
 use crate::positions::Positions;
 use crate::refusal::Refusal;
 
@@ -9,44 +10,40 @@ use crate::refusal::Refusal;
 fn rising(numbers: &[i64]) -> bool
     ensures { Decides result (Rising numbers.now (length numbers.now)) }
 {
-    for i in 1..numbers.len() {
-        if numbers[i - 1] >= numbers[i] {
-            return false;
-        }
-    }
-    true
+    numbers.windows(2).all(|pair| pair[0] < pair[1])
 }
 
 impl Positions {
     pub fn empty() -> Positions
         ensures { positions result ≡ [] }
     {
-        Positions { at: [0; 8], len: 0 }
+        Positions {
+            list: Numbers::empty(),
+        }
     }
 
-    // The list of these numbers: at most eight, and rising.
-    pub fn from_numbers(numbers: &[i64]) -> Result<Positions, Refusal>
-        ensures { ListMade numbers.now result }
+    pub fn as_slice(&self) -> &[i64]
+        ensures { result.now ≡ positions self.now }
     {
+        self.list.as_slice()
+    }
+}
+
+// The list of some numbers: at most eight, and rising.
+impl<'a> TryFrom<&'a [i64]> for Positions {
+    type Error = Refusal;
+
+    ghost try_from_gives = { λ numbers r. ListMade numbers.now r };
+
+    fn try_from(numbers: &'a [i64]) -> Result<Positions, Refusal> {
         if numbers.len() > 8 {
             return Err(Refusal::TooManyPositions);
         }
         if !rising(numbers) {
             return Err(Refusal::NotRising);
         }
-        let mut at = [0; 8];
-        for i in 0..numbers.len() {
-            at[i] = numbers[i];
-        }
         Ok(Positions {
-            at,
-            len: numbers.len(),
+            list: Numbers::from_slice(numbers),
         })
-    }
-
-    pub fn as_slice(&self) -> &[i64]
-        ensures { result.now ≡ positions self.now }
-    {
-        &self.at[0..self.len]
     }
 }

@@ -1,11 +1,9 @@
 pub mod picking;
 
-ghost use Rattle.std.specs.Prelude.{◌≤◌};
+use crate::numbers::Numbers;
 
 // At most nine positions.
 #[derive(Clone, Copy)]
 pub struct Pool {
-    at: [i64; 9],
-    len: usize,
-    ghost few: { len ≤ 9 },
+    list: Numbers<9>,
 }

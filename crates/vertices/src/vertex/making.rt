@@ -10,12 +10,11 @@ use rows::row::Constraint;
 impl Vertex {
     // The point where the lines of two limits cross; none where they are parallel.
     pub fn of_lines(g: Constraint, h: Constraint) -> Option<Vertex>
-        requires { (Bounded g) × (Bounded h) }
+        requires g_bounded { Bounded g }
+        requires h_bounded { Bounded h }
         ensures { listed result ≡ crossing g h }
     {
-        match crossing(g, h) {
-            Some((x, y, d)) => Some(Vertex { x, y, d }),
-            None => None,
-        }
+        let (x, y, d) = crossing(g, h)?;
+        Some(Vertex { x, y, d })
     }
 }

@@ -1,12 +1,12 @@
 ghost use Rattle.lowest.specs.Reduced.{LowestTerms};
 
 use crate::vertex::Vertex;
-use lowest::reduce::reduce;
+use lowest::reduce::{RationalPoint, reduce};
 
 impl Vertex {
-    // The numbers of the point in lowest terms.
-    pub fn reduced(self) -> (i64, i64, i64)
-        ensures { LowestTerms self.x self.y self.d result.0 result.1 result.2 }
+    // The same point in lowest terms.
+    pub fn reduced(self) -> RationalPoint
+        ensures { LowestTerms self.x self.y self.d result.x result.y result.d }
     {
         reduce(self.x, self.y, self.d)
     }

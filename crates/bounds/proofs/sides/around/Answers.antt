@@ -1,7 +1,6 @@
 use Rattle.std.proofs.Common.{◌∙◌}
-use Rattle.rows.specs.Row.{picked}
 use Rattle.bounds.proofs.Around.{around_all}
 use Rattle.bounds.proofs.sides.around.Goals as goal
 
 pub returns : goal.returns
-returns c = c.with_points.ensures ∙ around_all (picked c.args.rows.now c.args.list.now)
+returns c = c.with_points.ensures ∙ around_all c.args.list.now

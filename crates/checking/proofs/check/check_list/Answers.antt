@@ -1,18 +1,25 @@
+use Rattle.std.proofs.Common.{sym, ◌∙◌, subst, rules}
 use Rattle.rows.specs.List.{positions}
-use Rattle.std.proofs.Common.{subst}
-use Rattle.rows.specs.Row.{Named, AllOpen}
-use Rattle.checking.proofs.Passing.{answered, passes}
+use Rattle.lptype.specs.Meaning.{Admitted}
+use Rattle.checking.specs.Checking.{CheckAnswer}
+use Rattle.checking.proofs.Admitting.{admitted_picked}
+use Rattle.checking.proofs.Passing.{check_passes}
 use Rattle.checking.proofs.check.check_list.Goals as goal
 
-pub returns : goal.returns
-returns g c =
+pub is_standing-requires : goal.is_standing-requires
+is_standing-requires g c =
     let m = g.P.Problem.meaning c.args.problem.now in
-    let rows = c.args.rows.now in
-    let ps = positions c.args.list.now in
-    let n = subst (Named rows) c.as_slice-positions.ensures (c.all_named.ensures.0 c.if-not-all_named.false) in
-    let o = subst (AllOpen rows) c.as_slice-positions.ensures (c.all_open.ensures.0 c.if-not-all_open.false) in
-    let s = c.stands_list.ensures.0 c.if-not-stands_list.false in
-    record {
-      answer = answered m rows ps n o s c.search_rows.result c.search_rows.ensures;
-      passes = passes m (g.met.P.Problem.lawful c.args.problem.now) rows c.requires.0 ps n o s c.search_rows.result c.search_rows.ensures;
-    }
+    let p = c.in_ok-picked.ensures in
+    subst (Admitted m) (sym (c.deref.ensures.0 ∙ p.1.1)) (admitted_picked m c.args.rows.now c.requires.admitted (positions c.args.list.now) p.0)
+
+pub search_rows-requires-clause-listed : goal.search_rows-requires-clause-listed
+search_rows-requires-clause-listed g c =
+    let m = g.P.Problem.meaning c.args.problem.now in
+    let p = c.in_ok-picked.ensures in
+    subst (Admitted m) (sym (c.deref-2.ensures.0 ∙ p.1.1)) (admitted_picked m c.args.rows.now c.requires.admitted (positions c.args.list.now) p.0)
+
+pub returns-clause-passes : goal.returns-clause-passes
+returns-clause-passes g c =
+    let m = g.P.Problem.meaning c.args.problem.now in
+    let answer : CheckAnswer m c.args.rows.now (positions c.args.list.now) c.search_rows.result = search rules in
+    check_passes m (g.met.P.Problem.lawful c.args.problem.now) c.args.rows.now c.requires.admitted (positions c.args.list.now) c.search_rows.result answer

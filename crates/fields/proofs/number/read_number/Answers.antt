@@ -26,5 +26,5 @@ returns c =
     let f = c.args.field.now in
     let n = c.loop-byte.reader in
     let read = subst (Read n) (take_all c.loop-byte.byte-index f c.loop-byte-test.false) c.loop-byte.invariant in
-    let number = subst (NumberRead f) (sym c.number.ensures) (read_all n.state n.value f read) in
+    let number = subst (NumberRead f) (sym c.number.ensures) (read_all n.state f read) in
     record { read = number; exactly = read_exactly f c.number.result number }

@@ -1,14 +1,8 @@
-use Rattle.std.proofs.Common.{◌<◌, length, ◌∙◌, arith}
+use Rattle.std.proofs.Common.{length, ◌∙◌, arith}
 use Rattle.std.specs.List.{range_with_len}
 use Rattle.std.proofs.lemmas.List.FromFn.{fill_by_all}
-use Rattle.std.proofs.lemmas.List.Edits.{fill_by_more}
 use Rattle.std.proofs.lemmas.List.{map-id}
 use Rattle.walk.proofs.shuffling.number.Goals as goal
-
-pub loop-i-preserved : goal.loop-i-preserved
-loop-i-preserved c =
-    let l : c.loop-i.i < length c.loop-i.order = omega arith in
-    fill_by_more (λ k. k) c.loop-i.order c.loop-i.i 0 l c.loop-i.invariant
 
 pub returns : goal.returns
 returns c =

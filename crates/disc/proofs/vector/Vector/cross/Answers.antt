@@ -4,9 +4,9 @@ use Rattle.disc.proofs.Products.{product}
 use Rattle.disc.proofs.vector.Vector.cross.Goals as goal
 
 pub overflow_sub-result : goal.overflow_sub-result
-overflow_sub-result c = val_fits w64 (val_sub (product c.requires.0.east c.requires.1.north) (product c.requires.0.north c.requires.1.east)) tt
+overflow_sub-result c = val_fits w64 (val_sub (product c.args.self.east c.args.other.north) (product c.args.self.north c.args.other.east)) tt
 
 pub returns : goal.returns
 returns c =
-    let r = through w64 (val_sub (product c.requires.0.east c.requires.1.north) (product c.requires.0.north c.requires.1.east)) tt in
+    let r = through w64 (val_sub (product c.args.self.east c.args.other.north) (product c.args.self.north c.args.other.east)) tt in
     record { value = r.is; bound = val_small r }

@@ -1,6 +1,5 @@
-use Rattle.std.proofs.Common.{◌+◌, ◌-◌, ◌∷◌, length, take, drop, refl, ap, ◌∙◌, arith}
+use Rattle.std.proofs.Common.{◌≡◌, drop, take, length, refl, ◌∙◌, length-take-le}
 use Rattle.std.proofs.lemmas.List.{take_rest}
-use Rattle.fields.specs.Fields.{fields_from}
 use Rattle.fields.proofs.Cutting.{next_field}
 use Rattle.fields.proofs.token.Fields.next_field.Goals as goal
 
@@ -8,7 +7,10 @@ pub returns : goal.returns
 returns c =
     let line = c.args.self.now.line.now in
     let i = c.args.self.now.next in
+    let rest = c.in_ok-rest.rest.now in
     let n = c.comma.result in
+    let lookup = c.in_ok-rest.ensures.lookup.0 in
     let found = c.comma.ensures in
-    let next = next_field line (take (length line - i) (drop i line)) i n (take_rest line i) c.if-start-line.false found.within found.before found.found in
-    (next ∙ ap (λ k. take k (drop i line) ∷ fields_from line (i + n + 1)) (omega arith), refl, refl)
+    let is : rest ≡ drop i line = lookup.2 ∙ take_rest line i in
+    let len : length (take n rest) ≡ n = length-take-le n rest found.within in
+    (rw len (next_field line rest i n is lookup.0 found.within found.before found.found), refl, refl)

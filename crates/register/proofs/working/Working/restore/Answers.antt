@@ -1,26 +1,28 @@
-use Rattle.std.proofs.Common.{◌≡◌, ℤ, Ok, Err, refl, subst, w64}
+use Rattle.std.proofs.Common.{◌≡◌, ℤ, subst, w64}
 use Rattle.std.proofs.lemmas.Int.{to_z-of_z}
-use Rattle.register.specs.State.{RestoreAnswer, restored}
+use Rattle.register.specs.State.{Became, RestoreAnswer, restored}
 use Rattle.register.specs.Days.{restores}
 use Rattle.register.specs.Calls.{state_of}
+use Rattle.register.specs.Contents.{contents_state}
+use Rattle.register.proofs.Filing.{good_restore}
 use Rattle.register.proofs.Keeping.{extends}
 use Rattle.register.proofs.working.Working.restore.Goals as goal
 
-pub returns-in-Err : goal.returns-in-Err
-returns-in-Err g c =
+pub returns-clause-good : goal.returns-clause-good
+returns-clause-good g c =
     let w = c.args.self.now in
-    let m = g.P.Problem.meaning w.problem in
     let s = state_of w in
+    let t = contents_state c.mark.new.self in
     let z = to_z-of_z w64 c.args.position c.ranges.position in
-    let a = subst (λ (q : ℤ). RestoreAnswer s q (Err c.in-Err.refusal)) z c.in-Err.ensures in
-    record { answer = a; after = refl; problem = refl; good = c.requires; day = extends m (restores c.args.position (Err c.in-Err.refusal) a refl) }
+    let b = subst (λ (q : ℤ). Became c.mark.result s (λ u. u ≡ restored q s) t) z c.mark.ensures.after in
+    good_restore (g.P.Problem.meaning w.problem) c.args.position s t c.mark.result b c.requires
 
-pub returns-in-Ok : goal.returns-in-Ok
-returns-in-Ok g c =
+pub returns-clause-day : goal.returns-clause-day
+returns-clause-day g c =
     let w = c.args.self.now in
-    let m = g.P.Problem.meaning w.problem in
     let s = state_of w in
+    let t = contents_state c.mark.new.self in
     let z = to_z-of_z w64 c.args.position c.ranges.position in
-    let a = subst (λ (q : ℤ). RestoreAnswer s q (Ok tt)) z c.in-Ok.ensures in
-    let b = subst (λ (q : ℤ). state_of c.mark_open.new.self ≡ restored q s) z c.mark_open.ensures.after in
-    record { answer = a; after = b; problem = c.mark_open.ensures.problem; good = c.mark_open.ensures.good; day = extends m (restores c.args.position (Ok tt) a b) }
+    let a = subst (λ (q : ℤ). RestoreAnswer s q c.mark.result) z c.mark.ensures.answer in
+    let b = subst (λ (q : ℤ). Became c.mark.result s (λ u. u ≡ restored q s) t) z c.mark.ensures.after in
+    extends (g.P.Problem.meaning w.problem) (restores c.args.position c.mark.result a b)

@@ -5,7 +5,7 @@ use Rattle.limits.proofs.Cramer.{with_numbers, same_numbers}
 use Rattle.algebra.proofs.Computed.{Val, val_of}
 use Rattle.limits.proofs.Sizes.{computed_within}
 use Rattle.vertices.specs.Crossed.{Bounded, crossing_numbers}
-use Rattle.vertices.proofs.Numbers.{Upright, upright_some, upright_none, cramer_x_small, cramer_y_small, cramer_d_small}
+use Rattle.vertices.proofs.Numbers.{Upright, upright_some, cramer_x_small, cramer_y_small, cramer_d_small}
 use Rattle.vertices.proofs.vertex.Vertex.of_lines.Goals as goal
 
 module _ (g h : Constraint) (p : Bounded g) (q : Bounded h) (x y d : ℤ) (e : Some (x, y, d) ≡ crossing_numbers g h) where
@@ -31,16 +31,13 @@ pub invariant_of-result : goal.invariant_of-result
 invariant_of-result c =
     let g = c.args.g in
     let h = c.args.h in
-    let e = c.in-Some.ensures in
+    let n = c.in_ok-x in
     record {
-      above = d_above g h c.requires.0 c.requires.1 c.in-Some.x c.in-Some.y c.in-Some.d e;
-      xbound = computed_within 2000000000 (omega arith) (x_read g h c.requires.0 c.requires.1 c.in-Some.x c.in-Some.y c.in-Some.d e);
-      ybound = computed_within 2000000000 (omega arith) (y_read g h c.requires.0 c.requires.1 c.in-Some.x c.in-Some.y c.in-Some.d e);
-      dbound = computed_within 2000000 (omega arith) (d_read g h c.requires.0 c.requires.1 c.in-Some.x c.in-Some.y c.in-Some.d e);
+      above = d_above g h c.requires.g_bounded c.requires.h_bounded n.x n.y n.d n.ensures;
+      xbound = computed_within 2000000000 (omega arith) (x_read g h c.requires.g_bounded c.requires.h_bounded n.x n.y n.d n.ensures);
+      ybound = computed_within 2000000000 (omega arith) (y_read g h c.requires.g_bounded c.requires.h_bounded n.x n.y n.d n.ensures);
+      dbound = computed_within 2000000 (omega arith) (d_read g h c.requires.g_bounded c.requires.h_bounded n.x n.y n.d n.ensures);
     }
 
-pub returns-in-Some : goal.returns-in-Some
-returns-in-Some c = lists c.args.g c.args.h c.requires.0 c.requires.1 c.in-Some.x c.in-Some.y c.in-Some.d c.in-Some.ensures _
-
-pub returns-in-None : goal.returns-in-None
-returns-in-None c = sym (upright_none (cramer_x c.args.g c.args.h) (cramer_y c.args.g c.args.h) (cramer_d c.args.g c.args.h) c.in-None.ensures)
+pub returns : goal.returns
+returns c = lists c.args.g c.args.h c.requires.g_bounded c.requires.h_bounded c.in_ok-x.x c.in_ok-x.y c.in_ok-x.d c.in_ok-x.ensures _
