@@ -9,7 +9,7 @@ use bounds::problem::Bounds;
 use disc::problem::Disc;
 use format::command::Header;
 use format::line::LineBuffer;
-use input::next_line;
+use input::Input;
 use listing::answers::AnswerLine;
 use listing::line::{first_line, obey_line};
 use listing::obeying::Outcome;
@@ -18,13 +18,12 @@ use listing::text::Printer;
 use lptype::problem::Problem;
 use register::working::Working;
 use std::io;
-use std::io::{BufRead, BufReader};
 
 // Carries out the lines after the first, and prints what each has to say.
-fn run<P: Problem + Drop, R: BufRead>(
+fn run<P: Problem + Drop>(
     rt: &HostRuntime,
     problem: P,
-    input: &mut R,
+    input: &mut Input,
     line: &mut LineBuffer,
 ) -> io::Result<()>
 where
@@ -33,7 +32,7 @@ where
     let mut register = Working::new(problem);
     for number in 2..u64::MAX {
         line.clear();
-        if !next_line(input, line)? {
+        if !input.next_line(line)? {
             break;
         }
         let printer = Printer::new(rt.alloc(), number);
@@ -50,9 +49,9 @@ where
 }
 
 fn main(rt: HostRuntime) -> io::Result<()> {
-    let mut input = BufReader::new(rt.alloc(), rt.stdin())?;
+    let mut input = Input::new(rt.stdin());
     let mut line = LineBuffer::new();
-    if !next_line(&mut input, &mut line)? {
+    if !input.next_line(&mut line)? {
         return Ok(());
     }
     let printer = Printer::new(rt.alloc(), 1);

@@ -97,7 +97,7 @@ drop_past : (xs ys : List Constraint) (x : Constraint) → drop (length xs + 1) 
 drop_past xs ys x = ap (drop (length xs + 1)) (sym (append_assoc xs (x ∷ []) ys)) ∙ drop_at (xs ++ x ∷ []) ys (length xs + 1) (length_push xs x)
 
 module _ (F : List Constraint) where
-  needed_stands : AllNeeded F → Stands boxes F
+  pub needed_stands : AllNeeded F → Stands boxes F
   needed_stands n = record {
     without = λ xs ys x e.
         let l : length xs < length F = omega (arith, ap length e, length-append xs (x ∷ ys)) in
@@ -108,7 +108,7 @@ module _ (F : List Constraint) where
         (left_out xs ys x F e).0 (sym (ap (λ k. misses (box_around k) x) o) ∙ sym (ap (misses (box_around (others F (length xs)))) g) ∙ n (length xs) l);
   }
 
-  stands_needed : Stands boxes F → AllNeeded F
+  pub stands_needed : Stands boxes F → AllNeeded F
   stands_needed s i l =
       let x = get_or F i no_row.constraint in
       let e : F ≡ take i F ++ (x ∷ drop (i + 1) F) = sym (take-append-drop i F) ∙ ap (λ k. take i F ++ k) (drop_more F i no_row.constraint l) in

@@ -1,4 +1,5 @@
 pub mod Occurring
 pub mod Opening
 pub mod Admitting
+pub mod Refusing
 pub mod Passing

@@ -7,18 +7,24 @@ use Rattle.rows.specs.declared.row.Constraint.{Constraint}
 use Rattle.lptype.specs.Meaning.{Stands, Raises}
 use Rattle.algebra.proofs.Ring.{num, ◌⊖◌, ◌⊗◌, ⊝, ◌≐◌, ring2}
 use Rattle.algebra.proofs.Order.{lin, lt_by, le_of_lt, mul_nonneg, mul_pos, lt_z_in, lt_z_out, lt_z_false}
-use Rattle.circles.specs.Angles.{corner, turn, Acute, power}
+use Rattle.circles.specs.Angles.{apart, corner, turn, Differ, Acute, power}
 use Rattle.circles.specs.Discs.{discs}
-use Rattle.circles.specs.Tests.{acute, outside_pair, outside_circle}
+use Rattle.circles.specs.Tests.{differ, acute, outside_pair, outside_circle}
 use Rattle.circles.proofs.Optimal.{turn_pos}
-use Rattle.circles.proofs.Standing.{stands_three}
-use Rattle.circles.proofs.Violating.{violates_two, violates_three}
+use Rattle.circles.proofs.Standing.{apart_pos, apart_differ, stands_two, stands_three}
+use Rattle.circles.proofs.Violating.{violates_one, violates_two, violates_three}
 
 decides_lt_z : (a b : ℤ) → Decides (lt_z a b) (a <ℤ b)
 decides_lt_z a b = (lt_z_out, lt_z_in)
 
 decides_iff : {P Q : Type 0} (t : Bool) → Decides t P → Q ↔ P → Decides t Q
 decides_iff t d e = Decides-like t e.1 e.0 d
+
+pub decides_differ : (p q : Constraint) → Decides (differ p q) (Differ p q)
+decides_differ p q = Decides-like (differ p q) (apart_differ p q) (apart_pos p q) (decides_lt_z (pos 0) (apart p q))
+
+pub stands_differ : (p q : Constraint) → Decides (differ p q) (Stands discs (p ∷ q ∷ []))
+stands_differ p q = decides_iff (differ p q) (decides_differ p q) (stands_two p q)
 
 pub decides_acute : (p q r : Constraint) → Decides (acute p q r) (Acute p q r)
 decides_acute p q r = Decides-like (acute p q r)
@@ -37,6 +43,9 @@ turn_apart p q r a e = <ℤ_irrefl (subst (λ (k : ℤ). pos 0 <ℤ (k *ℤ k)) 
 
 pub stands_acute : (p q r : Constraint) → Decides (acute p q r) (Stands discs (p ∷ q ∷ r ∷ []))
 stands_acute p q r = decides_iff (acute p q r) (decides_acute p q r) (stands_three p q r)
+
+pub raises_differ : (p h : Constraint) → Decides (differ p h) (Raises discs (p ∷ []) h)
+raises_differ p h = decides_iff (differ p h) (decides_differ p h) (violates_one p h)
 
 pub raises_pair : (p q h : Constraint) → Decides (outside_pair p q h) (Raises discs (p ∷ q ∷ []) h)
 raises_pair p q h = decides_iff (outside_pair p q h) (decides_lt_z (pos 0) (corner h p q)) (violates_two p q h)

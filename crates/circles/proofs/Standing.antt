@@ -69,6 +69,9 @@ pub apart_same : (p q : Constraint) → p.a ≡ q.a → p.b ≡ q.b → apart p 
 apart_same p q e f = ap (λ (z : ℤ). squares (z -ℤ q.a) (p.b -ℤ q.b)) e ∙ ap (λ (z : ℤ). squares (q.a -ℤ q.a) (z -ℤ q.b)) f
     ∙ ring2 (λ a b. squaresE (a ⊖ a) (b ⊖ b) ≐ num 0) refl q.a q.b
 
+pub apart_differ : (p q : Constraint) → pos 0 <ℤ apart p q → Differ p q
+apart_differ p q l e = absurd (subst (λ (z : ℤ). pos 0 <ℤ z) (apart_same p q e.0 e.1) l).lt
+
 -- none and one
 
 pub violates_none : (h : Constraint) → Raises discs [] h

@@ -1,7 +1,11 @@
 -- The tests by which code decides: whole numbers, compared with 0.
 use Rattle.std.specs.Prelude.{Bool, cond, ◌&&◌, pos, int_lt}
 use Rattle.rows.specs.declared.row.Constraint.{Constraint}
-use Rattle.circles.specs.Angles.{corner, turn, power}
+use Rattle.circles.specs.Angles.{apart, corner, turn, power}
+
+-- the points p and q are apart
+abbrev pub differ : Constraint → Constraint → Bool
+differ p q = int_lt (pos 0) (apart p q)
 
 -- the dot product at the corner p is above 0
 abbrev pub acute_at : Constraint → Constraint → Constraint → Bool

@@ -1,8 +1,8 @@
-ghost use Rattle.std.specs.Prelude.{◌≡◌, ◌-ℤ◌, Decides, IsTrue};
+ghost use Rattle.std.specs.Prelude.{◌≡◌, ◌-ℤ◌, IsTrue};
 ghost use Rattle.algebra.specs.Small.{Small};
 ghost use Rattle.points.specs.Point.{admits_point};
-ghost use Rattle.circles.specs.Angles.{squares, Differ, corner};
-ghost use Rattle.circles.specs.Tests.{acute_at, outside_pair};
+ghost use Rattle.circles.specs.Angles.{squares, corner};
+ghost use Rattle.circles.specs.Tests.{differ, acute_at, outside_pair};
 
 use crate::vector::Vector;
 use rows::row::Constraint;
@@ -56,9 +56,9 @@ impl Point {
 
     // Whether the two differ. No PartialEq: the parish does not count.
     pub(crate) fn differs(self, other: Self) -> bool
-        ensures { Decides result (Differ self.at other.at) }
+        ensures { result ≡ differ self.at other.at }
     {
-        (self.at.a, self.at.b) != (other.at.a, other.at.b)
+        0 < other.to(self).square()
     }
 
     // Whether this corner of the triangle with q and r is acute.

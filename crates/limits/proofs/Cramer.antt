@@ -26,3 +26,6 @@ pub point_below : (x y d : ℤ) → d <ℤ pos 0 → (h : pos 0 <ℤ neg_ℤ d) 
 point_below x y (pos zero) l h = absurd (<ℤ_irrefl h)
 point_below x y (pos (suc n)) l h = absurd h.lt
 point_below x y (negsuc n) l h = ap (λ k. with_numbers (neg_ℤ x) (neg_ℤ y) (pos (suc n)) k ∷ []) (lt_prop (above n) h)
+
+pub point_none : (x y d : ℤ) → d ≡ pos 0 → point_of x y d ≡ []
+point_none x y d e = ap (point_of x y) e

@@ -95,12 +95,12 @@ module _ (m : Meaning) (l : Laws m) (rows : List Row) where
 
 -- the answer, from what violates and the search answered
 module _ (m : Meaning) (l : Laws m) (rows : List Row) (ps : List ℤ) (h : ℤ) where
-  answer_found : (p : Positions) (pool : List ℤ) (k : ℕ) → ViolatesAnswer m rows ps h (Ok true) → pool ≡ inserted h ps → Serves m rows pool k → positions p ≡ chosen pool k → BasisAnswer m rows ps h (Ok p)
+  pub answer_found : (p : Positions) (pool : List ℤ) (k : ℕ) → ViolatesAnswer m rows ps h (Ok true) → pool ≡ inserted h ps → Serves m rows pool k → positions p ≡ chosen pool k → BasisAnswer m rows ps h (Ok p)
   answer_found p pool k v e s f =
       let x = exchanged m l rows ps h (v.0, v.1.0) k (v.1.1.1.0 refl) (subst (λ q. Serves m rows q k) e s) in
       (v.0, (v.1.0, (v.1.1.0, subst (Exchanged m rows ps h) (sym (f ∙ ap (λ q. chosen q k) e)) x)))
 
-  answer_none : (pool : List ℤ) → Rising ps (length ps) → ViolatesAnswer m rows ps h (Ok true) → pool ≡ inserted h ps → ((k : ℕ) → k < 2 ^ length pool → Serves m rows pool k → ⊥) → ⊥
+  pub answer_none : (pool : List ℤ) → Rising ps (length ps) → ViolatesAnswer m rows ps h (Ok true) → pool ≡ inserted h ps → ((k : ℕ) → k < 2 ^ length pool → Serves m rows pool k → ⊥) → ⊥
   answer_none pool r v e n =
       let s = some_serves m l rows ps h (v.0, v.1.0) r (v.1.1.1.0 refl) in
       subst (λ q. (k : ℕ) → k < 2 ^ length q → Serves m rows q k → ⊥) e n s.0 s.1 s.2

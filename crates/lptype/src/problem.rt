@@ -143,7 +143,7 @@ pub trait Problem {
     fn qualifies(&self, rows: &[Row], list: &Positions, pool: &[i64]) -> bool
         ensures { Decides result (Qualifies (meaning self.now) rows.now (positions list.now) pool.now) }
     {
-        self.stands_at(rows, list) && pool.iter().all(|p| self.quiet_at(rows, list, *p))
+        pool.iter().all(|p| self.quiet_at(rows, list, *p)) && self.stands_at(rows, list)
     }
 
     // The list that the mask chooses from the pool, if it qualifies.

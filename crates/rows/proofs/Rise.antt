@@ -1,5 +1,5 @@
--- Rising lists: each number lies below all that follow it.
-use Rattle.std.proofs.Common.{◌≡◌, ℕ, zero, suc, ◌+◌, ◌<◌, ◌≤◌, List, [], ◌∷◌, length, get_or, drop, ℤ, pos, ◌<ℤ◌, sym, subst, add-one, arith}
+-- Rising lists: those that agree as far as a place rise alike, and each number lies below all that follow it.
+use Rattle.std.proofs.Common.{◌≡◌, ℕ, zero, suc, ◌+◌, ◌<◌, ◌≤◌, List, [], ◌∷◌, length, get_or, take, drop, ℤ, pos, ◌<ℤ◌, sym, ap, ◌∙◌, subst, add-one, arith, get_or-take}
 use Rattle.std.specs.List.{AllByRecursion}
 use Rattle.std.proofs.ByRecursion.{All-weaker}
 use Rattle.std.proofs.lemmas.List.{length-take}
@@ -9,6 +9,20 @@ use Rattle.rows.specs.Rising.{Rising}
 use Rattle.rows.specs.Sublist.{Sublist, nothing, leave, keep}
 use Rattle.rows.specs.declared.positions.Positions.{Positions}
 use Rattle.rows.proofs.Sublist.{sublist_all}
+
+same_at : (xs ys : List ℤ) (n i : ℕ) → take n xs ≡ take n ys → i < n → get_or ys i (pos 0) ≡ get_or xs i (pos 0)
+same_at xs ys n i e h = sym (get_or-take n ys i (pos 0) h) ∙ ap (λ l. get_or l i (pos 0)) (sym e) ∙ get_or-take n xs i (pos 0) h
+
+pub rising_same : (xs ys : List ℤ) (n : ℕ) → take n xs ≡ take n ys → Rising ys n → Rising xs n
+rising_same xs ys n e r i h =
+    let k : i < n = omega arith in
+    rw (same_at xs ys n i e k, same_at xs ys n (i + 1) e h) at (r i h)
+
+-- the front of a list that rises as far as there
+pub rising_front : (xs : List ℤ) (n : ℕ) → Rising xs n → Rising (take n xs) (length (take n xs))
+rising_front xs n r i h =
+    let k : i + 1 < n = omega (arith, length-take n xs) in
+    rw (get_or-take n xs i (pos 0) (omega arith), get_or-take n xs (i + 1) (pos 0) k) (r i k)
 
 -- what every list of positions is
 pub positions_rise : (p : Positions) → Rising (positions p) (length (positions p))

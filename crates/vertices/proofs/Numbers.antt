@@ -6,7 +6,7 @@ use Rattle.rows.specs.declared.row.Constraint.{Constraint}
 use Rattle.algebra.proofs.Order.{lin, antisym, lt_z_out, lt_z_false}
 use Rattle.rows.specs.Range.{within}
 use Rattle.limits.specs.Crossings.{point_of, cramer_x, cramer_y, cramer_d}
-use Rattle.limits.proofs.Cramer.{with_numbers, point_above, point_below}
+use Rattle.limits.proofs.Cramer.{with_numbers, point_above, point_below, point_none}
 use Rattle.algebra.specs.Small.{Small}
 use Rattle.algebra.proofs.Computed.{Val, val_of, small_mul, small_sub, small_neg}
 use Rattle.limits.proofs.Sizes.{computed_within, within_small}
@@ -47,6 +47,14 @@ module _ (X Y D : ℤ) where
         go true b' f g e = moved X Y D e (as_is (lt_z_out f))
         go false true f g e = moved (neg_ℤ X) (neg_ℤ Y) (neg_ℤ D) e (negated (lt_z_out g))
         go false false f g e = let z : false ≡ true = cc in absurd (false≢true z)
+
+  pub upright_none : None ≡ upright X Y D → point_of X Y D ≡ []
+  upright_none e = go (lt_z (pos 0) D) (lt_z D (pos 0)) refl refl e
+    where
+      go : (b b' : Bool) → lt_z (pos 0) D ≡ b → lt_z D (pos 0) ≡ b' → None ≡ cond b (three X Y D) (cond b' (three (neg_ℤ X) (neg_ℤ Y) (neg_ℤ D)) None) → point_of X Y D ≡ []
+      go true b' f g e = let z : false ≡ true = cc in absurd (false≢true z)
+      go false true f g e = let z : false ≡ true = cc in absurd (false≢true z)
+      go false false f g e = point_none X Y D (antisym (lt_z_false f) (lt_z_false g))
 
 -- Cramer's numbers are small
 

@@ -4,7 +4,7 @@ ghost use Rattle.rows.specs.Judged.{Gives, Unless};
 ghost use Rattle.rows.specs.List.{positions};
 ghost use Rattle.rows.specs.declared.refusal.Refusal.TheVariants.{NoRow};
 ghost use Rattle.walk.specs.Shuffling.{shuffled};
-ghost use Rattle.walk.specs.Walks.{WalkEnds};
+ghost use Rattle.walk.specs.Walks.{WalkEnds, WalkLaw};
 ghost use Rattle.register.specs.State.{new_state, Became, Good, entered, Emptied, BasisAfter, already, MarkAnswer, MarkedAt};
 ghost use Rattle.register.specs.Days.{with_order, with_basis};
 ghost use Rattle.register.specs.Contents.{contents_state};
@@ -140,26 +140,18 @@ impl Contents {
         shuffle(&mut self.order, count, seed);
     }
 
-    // These contents after a walk through the order, with a basis of the open rows, and what the walk counted.
-    pub(crate) fn walked<P: Problem>(self, problem: &P) -> (Contents, Counts)
-        requires { Good (P.meaning problem.now) (contents_state self) }
-        ensures ends { WalkEnds (P.meaning problem.now) (contents_state self).rows (contents_state self).order (contents_state self).basis (contents_state result.0).basis result.1.tests result.1.exchanges }
-        ensures state { contents_state result.0 ≡ with_basis (contents_state result.0).basis (contents_state self) }
-        ensures good { Good (P.meaning problem.now) (contents_state result.0) }
+    // Walks through the order to a basis of the open rows, and says what the walk counted.
+    pub(crate) fn walk<P: Problem>(&mut self, problem: &P) -> Counts
+        requires { Good (P.meaning problem.now) (contents_state self.old) }
+        ensures ends { WalkEnds (P.meaning problem.now) (contents_state self.old).rows (contents_state self.old).order (contents_state self.old).basis (contents_state self.new).basis result.tests result.exchanges }
+        ensures law { WalkLaw (P.meaning problem.now) (contents_state self.old).rows (contents_state self.old).order (contents_state self.old).basis }
+        ensures state { contents_state self.new ≡ with_basis (contents_state self.new).basis (contents_state self.old) }
+        ensures good { Good (P.meaning problem.now) (contents_state self.new) }
     {
-        let Contents {
-            table,
-            used,
-            order,
-            mut basis,
-        } = self;
-        let counts = walk(problem, table.first(used), &order[..used], &mut basis);
-        let after = Contents {
-            table,
-            used,
-            order,
-            basis,
-        };
-        (after, counts)
+        let held = &*self;
+        let mut basis = held.basis;
+        let counts = walk(problem, held.rows(), &held.order[..held.used], &mut basis);
+        self.basis = basis;
+        counts
     }
 }

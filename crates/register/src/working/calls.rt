@@ -1,7 +1,7 @@
 ghost use Rattle.std.specs.Prelude.{◌≡◌, [], length, is_ok, Decides};
 ghost use Rattle.rows.specs.List.{positions};
 ghost use Rattle.rows.specs.Row.{picked};
-ghost use Rattle.lptype.specs.Questions.{ReadsBest};
+ghost use Rattle.lptype.specs.Questions.{ReadsBest, AnswerAnswer};
 ghost use Rattle.checking.specs.Checking.{CheckAnswer, BasisOfOpen};
 ghost use Rattle.walk.specs.Shuffling.{shuffled};
 ghost use Rattle.walk.specs.Walks.{WalkEnds};
@@ -17,7 +17,6 @@ use checking::check::check_list;
 use lptype::problem::Problem;
 use rows::positions::Positions;
 use rows::refusal::Refusal;
-use rows::row::picking::picked;
 use rows::row::{Constraint, Mark, is_parish};
 
 impl<P: Problem> Working<P> {
@@ -124,20 +123,27 @@ impl<P: Problem> Working<P> {
         ensures good { Good (P.meaning result.register.problem) (settled_state result) }
         ensures day { Extends (P.meaning self.problem) (working (state_of self)) settling (settled_phase result) }
     {
-        let Working { problem, contents } = self;
-        let (contents, counts) = contents.walked(&problem);
-        Settled {
-            register: Working { problem, contents },
-            counts,
-        }
+        let mut register = self;
+        let counts = register.contents.walk(&register.problem);
+        Settled { register, counts }
     }
 
-    // The best rival for the rows of the filed basis, or none.
+    // What the problem answers for the filed basis.
+    fn answered(&self) -> Result<P::Answer, Refusal>
+        ensures { AnswerAnswer (P.meaning self.now.problem) (P.Problem.reads self.now.problem) (state_of self.now).rows (state_of self.now).basis result }
+    {
+        self.problem
+            .answer(self.contents.rows(), &self.contents.basis)
+    }
+
+    // The answer for the filed basis, which is not refused.
     pub(crate) fn best(&self) -> P::Answer
         requires { Good (P.meaning self.now.problem) (state_of self.now) }
         ensures { ReadsBest (P.meaning self.now.problem) (P.Problem.reads self.now.problem) (picked (state_of self.now).rows (state_of self.now).basis) result }
     {
-        self.problem
-            .best(&picked(self.contents.rows(), &self.contents.basis))
+        match self.answered() {
+            Ok(answer) => answer,
+            Err(_) => unreachable(),
+        }
     }
 }

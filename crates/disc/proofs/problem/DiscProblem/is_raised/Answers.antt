@@ -1,9 +1,6 @@
-use Rattle.std.proofs.Common.{Decides, refl, arith}
-use Rattle.std.proofs.lemmas.Bool.Decides.{Decides-like}
-use Rattle.circles.specs.Angles.{Differ}
+use Rattle.std.proofs.Common.{refl, arith}
 use Rattle.circles.proofs.Standing.{violates_none, stands_three, stands_more}
-use Rattle.circles.proofs.Violating.{violates_one}
-use Rattle.circles.proofs.Deciding.{raises_pair, raises_circle}
+use Rattle.circles.proofs.Deciding.{raises_differ, raises_pair, raises_circle}
 use Rattle.disc.proofs.ByLength.{none, one, two, three}
 use Rattle.disc.proofs.problem.DiscProblem.is_raised.Goals as goal
 
@@ -16,8 +13,7 @@ returns-in-empty c = let e = none c.args.list.now c.in-empty.len_below in rw e (
 pub returns-in-len1 : goal.returns-in-len1
 returns-in-len1 c =
     let e = one c.args.list.now _ c.in-len1.len_at_least c.in-len1.len_below c.new.ensures in
-    let d : Decides c.differs.result (Differ c.new.result.at c.args.row) = rw c.new-h.ensures at c.differs.ensures in
-    rw e (Decides-like c.differs.result (violates_one _ _).1 (violates_one _ _).0 d)
+    rw e (rw c.differs.ensures (rw c.new-h.ensures (raises_differ _ _)))
 
 pub returns-in-len2 : goal.returns-in-len2
 returns-in-len2 c =

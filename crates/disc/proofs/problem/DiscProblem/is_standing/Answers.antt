@@ -1,11 +1,10 @@
 use Rattle.std.proofs.Common.{◌<◌, List, [], ◌∷◌, length, refl, arith}
 use Rattle.std.proofs.lemmas.Bool.{false≢true}
-use Rattle.std.proofs.lemmas.Bool.Decides.{Decides-like}
 use Rattle.rows.specs.declared.row.Constraint.{Constraint}
 use Rattle.lptype.specs.Meaning.{Stands}
 use Rattle.circles.specs.Discs.{discs}
-use Rattle.circles.proofs.Standing.{stands_none, stands_one, stands_two, stands_more}
-use Rattle.circles.proofs.Deciding.{stands_acute}
+use Rattle.circles.proofs.Standing.{stands_none, stands_one, stands_more}
+use Rattle.circles.proofs.Deciding.{stands_differ, stands_acute}
 use Rattle.disc.proofs.ByLength.{two, three}
 use Rattle.disc.proofs.problem.DiscProblem.is_standing.Goals as goal
 
@@ -20,7 +19,7 @@ returns-in-empty c = ((λ _. stands_few c.args.list.now c.in-empty.len_below), �
 pub returns-in-len2 : goal.returns-in-len2
 returns-in-len2 c =
     let e = two c.args.list.now _ c.in-len2.len_at_least c.in-len2.len_below c.new.ensures c.new-in-len2.ensures in
-    rw e (Decides-like c.differs.result (stands_two _ _).1 (stands_two _ _).0 c.differs.ensures)
+    rw e (rw c.differs.ensures (stands_differ _ _))
 
 pub returns-in-len3 : goal.returns-in-len3
 returns-in-len3 c =

@@ -8,5 +8,5 @@ pub returns-clause-day : goal.returns-clause-day
 returns-clause-day g c =
     let w = c.args.self in
     let m = g.P.Problem.meaning w.problem in
-    let k = c.walked.result.1 in
-    subst (λ s. Extends m (working (state_of w)) settling (settled s k.tests k.exchanges)) (sym c.walked.ensures.state) (extends m (settles c.walked.ensures.ends))
+    let k = c.walk-counts.result in
+    subst (λ s. Extends m (working (state_of w)) settling (settled s k.tests k.exchanges)) (sym c.walk-counts.ensures.state) (extends m (settles c.walk-counts.ensures.ends))
